@@ -1,5 +1,5 @@
 pub mod Steps
-mod Judged
+pub mod Judged
 pub mod Judging
 pub mod Lasting
 pub mod Staying

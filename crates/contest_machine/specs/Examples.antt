@@ -9,7 +9,7 @@ use Rattle.host_enumerate.specs.declared.maint.Access.TheVariants.{Read}
 use Rattle.fabric_map.specs.declared.map.Kind.TheVariants.{Endpoint}
 use Rattle.fabric_map.specs.declared.map.Device.{Device}
 use Rattle.contest_machine.specs.declared.stages.Asked.{Asked}
-use Rattle.contest_machine.specs.Machine.{Walker, new_walker, asked}
+use Rattle.contest_machine.specs.Machine.{Walker, State, new_walker, asked}
 use Rattle.contest_machine.specs.Turns.{Both, after_turns}
 use Rattle.contest_machine.specs.Locks.{walker_of}
 
@@ -59,3 +59,17 @@ waiting_host = walker_of host_waiting B
 -- it reads the lock of its neighbour
 abbrev pub lock_asked : Asked
 lock_asked = asked (0 ∷ []) (Read 0x68)
+
+-- the host 5 and the registers of both, as nobody else makes an access
+abbrev pub host_five_alone : ℕ → State
+host_five_alone lock = record {
+  walker = record (beginner 0 5) { begun = true };
+  registers = (two_hosts lock).registers;
+}
+
+-- The map of the host 5: the other has the least ID that is free.
+abbrev pub map_of_five : List Device
+map_of_five =
+    record { tag = 1; kind = Endpoint 5; path = [] }
+    ∷ record { tag = 2; kind = Endpoint 0; path = 0 ∷ [] }
+    ∷ []

@@ -8,4 +8,5 @@ pub mod Going
 pub mod Waiting
 pub mod Numbering
 pub mod Asking
+pub mod AloneWalks
 pub mod Examples

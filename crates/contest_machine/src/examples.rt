@@ -8,7 +8,8 @@ ghost use Rattle.contest_machine.specs.Turns.{after_turns};
 ghost use Rattle.contest_machine.specs.Locks.{side_answer, locks_in_turn, walker_of};
 ghost use Rattle.contest_machine.specs.Going.{going_over, turns_of, AreBegun, IsUnlocked, IsLeftAlone, HasNumbered};
 ghost use Rattle.contest_machine.specs.Asking.{WantsAlong, IsCarried};
-ghost use Rattle.contest_machine.specs.Examples.{two_hosts, till_waiting, five_each, till_done, map_of_seven, host_waiting, waiting_host, lock_asked};
+ghost use Rattle.contest_machine.specs.AloneWalks.{accesses_on, BeginsAlone, MeetsLock};
+ghost use Rattle.contest_machine.specs.Examples.{two_hosts, till_waiting, five_each, till_done, map_of_seven, host_waiting, waiting_host, lock_asked, host_five_alone, map_of_five};
 
 /// A host of ID 5 that is free reads its lock twice and goes on. Behind the lock of a host of ID 3
 /// it waits, and behind that of a host of ID 9 it is lost. The other host reads nothing meanwhile.
@@ -59,4 +60,15 @@ pub fn a_lock_is_read()
     ensures wanted { WantsAlong waiting_host host_waiting.registers lock_asked (port_at 0 0) }
     ensures carried { IsCarried waiting_host host_waiting.registers lock_asked (port_at 0 0) }
     ensures not_itself { ¬ IsCarried waiting_host host_waiting.registers lock_asked (port_at 1 0) }
+{}
+
+/// The host 5 alone begins as the laws ask, and has numbered itself and the host 7 after eleven
+/// accesses. If the host 9 has its lock, its first access reads that.
+pub fn one_of_a_pair_walks_alone()
+    ensures begins { BeginsAlone (host_five_alone 0xffff) }
+    ensures done { HasNumbered (accesses_on (host_five_alone 0xffff) 11).walker }
+    ensures not_before { ¬ HasNumbered (accesses_on (host_five_alone 0xffff) 10).walker }
+    ensures map { (accesses_on (host_five_alone 0xffff) 11).walker.devices ≡ map_of_five }
+    ensures meets { MeetsLock (host_five_alone 9) 9 }
+    ensures free { ¬ MeetsLock (host_five_alone 0xffff) 0xffff }
 {}

@@ -4,6 +4,7 @@ ghost use Rattle.contest_machine.specs.Going.{GoingIsBounded, AloneIsNoWait, Alo
 ghost use Rattle.contest_machine.specs.Waiting.{LostHostsMetAGreater, LostIsForAGreater, WaitingIsForALesser};
 ghost use Rattle.contest_machine.specs.Numbering.{DoneKeepsItsMap, OneIsDone, TurnsLeaveOthers};
 ghost use Rattle.contest_machine.specs.Asking.{OpenPathsCarry, PathsAreOpened, AccessesAreCarried};
+ghost use Rattle.contest_machine.specs.AloneWalks.{AloneNumbers, AloneMeetsLocks, AloneEnds, AloneIsCarried};
 
 /// After each turn no device is kept by both walkers. A device that is kept has its host's ID as
 /// lock. The lock of every other is free, or as it was at first, or was just written by a host.
@@ -98,4 +99,17 @@ pub fn open_paths_carry()
 pub fn accesses_are_carried()
     ensures opened { PathsAreOpened }
     ensures carried { AccessesAreCarried }
+{}
+
+// ---- a host that walks alone
+
+/// A host in whose fabric nobody else makes an access: once it is done, its list is the map of the
+/// fabric, numbered from the first registers on, and no device that it reaches had the lock of
+/// another host. The first access that would read such a lock finds the registers that a walk leaves
+/// that ends there. One of the two comes within 40,001 accesses, and each is carried.
+pub fn who_walks_alone_has_numbered()
+    ensures numbers { AloneNumbers }
+    ensures meets { AloneMeetsLocks }
+    ensures ends { AloneEnds }
+    ensures carried { AloneIsCarried }
 {}

@@ -5,7 +5,7 @@ use Rattle.maint_registers.specs.Devices.{Registers}
 use Rattle.maint_packets.specs.declared.request.Request.{Request}
 use Rattle.maint_packets.specs.declared.response.Response.{Response}
 use Rattle.maint_packets.specs.Requests.{IsGoodOp}
-use Rattle.link_wires.specs.declared.edits.Edit.{Edit}
+use Rattle.rio_chars.specs.declared.edit.Edit.{Edit}
 use Rattle.fabric_script.specs.declared.ports.PortRef.{PortRef}
 use Rattle.fabric_script.specs.Ports.{port_at}
 use Rattle.fabric_map.specs.Topology.{Topology, IsTopology}

@@ -6,7 +6,7 @@ use Rattle.maint_registers.specs.Changes.{with_device}
 use Rattle.maint_packets.specs.declared.request.Request.{Request}
 use Rattle.maint_packets.specs.Requests.{IsGoodOp}
 use Rattle.maint_packets.proofs.RequestLaws.{read_back}
-use Rattle.link_wires.specs.declared.edits.Edit.{Edit}
+use Rattle.rio_chars.specs.declared.edit.Edit.{Edit}
 use Rattle.fabric_script.specs.declared.ports.PortRef.{PortRef}
 use Rattle.fabric_model.specs.Network.{IsEndpoint}
 use Rattle.fabric_trace.specs.Fold.{seen}

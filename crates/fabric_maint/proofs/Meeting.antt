@@ -1,7 +1,7 @@
 -- Without edits no event is acted on that was not sent.
 use Rattle.std.proofs.Common.{◌≡◌, ℕ, List, [], Option, Some, None, sym, ◌∙◌, subst}
 use Rattle.link_model.specs.declared.event.Event.{Event}
-use Rattle.link_wires.specs.declared.edits.Edit.{Edit}
+use Rattle.rio_chars.specs.declared.edit.Edit.{Edit}
 use Rattle.fabric_script.specs.declared.ports.PortRef.{PortRef}
 use Rattle.fabric_trace.proofs.Traces.Existing.{good_of}
 use Rattle.fabric_ask.specs.Asks.{IsAsk}

@@ -7,7 +7,7 @@ use Rattle.maint_registers.specs.Changes.{with_device}
 use Rattle.maint_registers.specs.Within.{IsWithin}
 use Rattle.maint_registers.proofs.ChangeLaws.{device-changed}
 use Rattle.maint_registers.proofs.SameLaws.{same_kind}
-use Rattle.link_wires.specs.declared.edits.Edit.{Edit}
+use Rattle.rio_chars.specs.declared.edit.Edit.{Edit}
 use Rattle.fabric_script.specs.declared.ports.PortRef.{PortRef}
 use Rattle.fabric_script.specs.Ports.{port_at}
 use Rattle.fabric_map.specs.Topology.{Topology}

@@ -2,7 +2,7 @@
 ghost use Rattle.std.specs.Prelude.{◌≡◌, drop};
 
 use fabric_ports::Noise;
-use link_wires::Edit;
+use rio_chars::Edit;
 
 /// Edits that are given in their order, each once, and then none.
 #[derive(Drop)]

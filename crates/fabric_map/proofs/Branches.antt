@@ -1,12 +1,5 @@
 -- Which way leads to the endpoint with an ID, as the list of devices grows.
-use Rattle.std.proofs.Common.{◌≡◌, ◌≢◌, ℕ, zero, suc, ◌<◌, ◌||◌, Bool, true, false, cond, eqb, List, [], ◌∷◌, ◌++◌, length, take, find, slice_index_or, Option, Some, None, All, arith, subst, refl, ap, ◌∙◌, if◌then◌else◌, eq-eqb}
-use Rattle.std.specs.List.{list_any}
-use Rattle.std.specs.Option.{option_and_then, option_or}
-use Rattle.std.proofs.lemmas.Bool.{eqb-true}
-use Rattle.std.proofs.lemmas.List.Folds.{find-append}
-use Rattle.fabric_map.specs.declared.map.Device.{Device}
-use Rattle.fabric_map.specs.Walked.{Before, onward}
-use Rattle.fabric_map.specs.Numbered.{device_has_id, is_given, toward, port_toward}
+use Rattle.fabric_map.proofs.Prelude.{◌≡◌, ◌≢◌, ℕ, zero, suc, ◌<◌, ◌||◌, Bool, true, false, cond, eqb, List, [], ◌∷◌, ◌++◌, length, take, find, slice_index_or, Option, Some, None, All, arith, subst, refl, ap, ◌∙◌, if◌then◌else◌, eq-eqb, list_any, option_and_then, option_or, eqb-true, find-append, Device, Before, onward, device_has_id, is_given, toward, port_toward}
 use Rattle.fabric_map.proofs.Order.{further-not_less}
 
 -- a path that goes on behind another

@@ -1,9 +1,5 @@
 -- Packets for one ID that leave one port come to one endpoint.
-use Rattle.std.proofs.Common.{◌≡◌, ℕ, subst, sym}
-use Rattle.fabric_script.specs.declared.ports.PortRef.{PortRef}
-use Rattle.fabric_script.specs.Ports.{port_at}
-use Rattle.fabric_map.specs.Topology.{Topology}
-use Rattle.fabric_map.specs.Routes.{AllRegisters, Arrives, AtEndpoint, ThroughSwitch}
+use Rattle.fabric_map.proofs.Prelude.{◌≡◌, ℕ, subst, sym, PortRef, port_at, Topology, AllRegisters, Arrives, AtEndpoint, ThroughSwitch}
 
 pub one_endpoint : (topology : Topology) (registers : AllRegisters)
     (id node other : ℕ) {at : PortRef} → Arrives topology registers id node at

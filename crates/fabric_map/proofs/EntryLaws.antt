@@ -1,9 +1,5 @@
 -- Entries of a map, one after another.
-use Rattle.std.proofs.Common.{◌≡◌, ℕ, ◌+◌, ◌<◌, Bool, true, false, cond, List, [], ◌∷◌, ◌++◌, length, map, filter, None, arith, refl, ap, ◌∙◌, append-nil, add-one}
-use Rattle.fabric_map.specs.declared.map.Device.{Device}
-use Rattle.fabric_map.specs.declared.map.Entry.{Entry}
-use Rattle.fabric_map.specs.Numbered.{is_given, toward, port_toward, port_for, numbers_below, given_ids, entries_at}
-use Rattle.fabric_map.specs.declared.map.Kind.TheVariants.{Endpoint, Switch}
+use Rattle.fabric_map.proofs.Prelude.{◌≡◌, ℕ, ◌+◌, ◌<◌, Bool, true, false, cond, List, [], ◌∷◌, ◌++◌, length, map, filter, None, arith, refl, ap, ◌∙◌, append-nil, add-one, Device, Entry, is_given, toward, port_toward, port_for, numbers_below, given_ids, entries_at, Endpoint, Switch}
 
 pub toward-none : (front path : List ℕ) → length path < 1 → None ≡ toward front path
 toward-none [] [] short = refl

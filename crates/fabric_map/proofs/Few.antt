@@ -1,17 +1,8 @@
 -- A walk meets no more devices than there are.
-use Rattle.std.proofs.Common.{◌≡◌, ◌≢◌, ℕ, ◌<◌, ◌≤◌, ◌||◌, Bool, true, false, eqb, List, [], ◌∷◌, length, map, Option, Some, None, IsSome, option_map, unwrap_or, AllPairs, Contains, arith, subst, sym, refl, ap, ◌∙◌, ne_eqb}
-use Rattle.std.specs.List.{list_any, IsDistinct, AllByRecursion}
-use Rattle.std.specs.Option.{option_and_then}
-use Rattle.std.proofs.lemmas.Bool.{eqb-true}
-use Rattle.std.proofs.lemmas.List.Elements.{All-contains}
-use Rattle.std.proofs.lemmas.Option.{same_Some}
+use Rattle.fabric_map.proofs.Prelude.{◌≡◌, ◌≢◌, ℕ, ◌<◌, ◌≤◌, ◌||◌, Bool, true, false, eqb, List, [], ◌∷◌, length, map, Option, Some, None, IsSome, option_map, unwrap_or, AllPairs, Contains, arith, subst, sym, refl, ap, ◌∙◌, ne_eqb, list_any, IsDistinct, AllByRecursion, option_and_then, eqb-true, All-contains, same_Some, PortRef, port_at, Topology, IsTopology, IsPortIn, device_ports, behind_port, along, entered, node_at, Before, Walked}
 use Rattle.std.proofs.lemmas.List.{length-map}
 use Rattle.std.proofs.lemmas.Map.Steps.{length-le_from_distinct_below}
 use Rattle.std.proofs.lemmas.Map.Keys.{IsDistinct-cons}
-use Rattle.fabric_script.specs.declared.ports.PortRef.{PortRef}
-use Rattle.fabric_script.specs.Ports.{port_at}
-use Rattle.fabric_map.specs.Topology.{Topology, IsTopology, IsPortIn, device_ports, behind_port, along, entered, node_at}
-use Rattle.fabric_map.specs.Walked.{Before, Walked}
 use Rattle.fabric_map.proofs.Order.{Before-irreflexive}
 use Rattle.fabric_map.proofs.Lists.{Contains-first, Contains-rest, AllPairs-first, AllPairs-rest}
 use Rattle.fabric_map.proofs.Ways.{behind-link}

@@ -1,9 +1,5 @@
 -- The first locked device is one.
-use Rattle.std.proofs.Common.{◌≡◌, ℕ, List, Some, ◌⊎◌, inl, inr, subst, sym, ap, ◌∙◌}
-use Rattle.fabric_map.specs.Topology.{Topology, node_at}
-use Rattle.fabric_map.specs.Walked.{Before}
-use Rattle.fabric_map.specs.Routes.{AllRegisters}
-use Rattle.fabric_map.specs.Locked.{IsForeign, IsNext, IsFirstLocked}
+use Rattle.fabric_map.proofs.Prelude.{◌≡◌, ℕ, List, Some, ◌⊎◌, inl, inr, subst, sym, ap, ◌∙◌, Topology, node_at, Before, AllRegisters, IsForeign, IsNext, IsFirstLocked}
 use Rattle.fabric_map.proofs.Order.{compared}
 use Rattle.fabric_map.proofs.Walks.{met_before, included}
 use Rattle.fabric_map.proofs.Leading.{some_from_same}

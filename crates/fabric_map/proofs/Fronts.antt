@@ -1,8 +1,5 @@
 -- Fronts of paths: each front of a path of a walk is one of its paths.
-use Rattle.std.proofs.Common.{◌≡◌, ◌≢◌, ℕ, zero, suc, List, [], ◌∷◌, ◌++◌, length, Contains, arith, ◌⊎◌, inl, inr, subst, sym, refl, ap, ◌∙◌, append_assoc, append-nil, length-append}
-use Rattle.fabric_map.specs.Topology.{Topology}
-use Rattle.fabric_map.specs.Walked.{Before, onward, Walked}
-use Rattle.fabric_map.specs.Locked.{IsNext}
+use Rattle.fabric_map.proofs.Prelude.{◌≡◌, ◌≢◌, ℕ, zero, suc, List, [], ◌∷◌, ◌++◌, length, Contains, arith, ◌⊎◌, inl, inr, subst, sym, refl, ap, ◌∙◌, append_assoc, append-nil, length-append, Topology, Before, onward, Walked, IsNext}
 use Rattle.fabric_map.proofs.Order.{front_of, front_of-onward}
 use Rattle.fabric_map.proofs.Walks.{last_port}
 

@@ -1,12 +1,5 @@
 -- Which IDs are given, as the list of devices grows.
-use Rattle.std.proofs.Common.{◌≡◌, ℕ, zero, suc, ◌==◌, ◌||◌, Bool, true, false, List, [], ◌∷◌, ◌++◌, Contains, arith, refl, ap, ◌∙◌, subst, sym, inl, inr, ◌⊎◌, find, Some, Option, cond, None, eqb-true}
-use Rattle.std.proofs.lemmas.Bool.{or_right}
-use Rattle.std.proofs.lemmas.List.Folds.{list_any-append}
-use Rattle.fabric_map.specs.declared.map.Kind.{Kind}
-use Rattle.fabric_map.specs.declared.map.Kind.TheVariants.{Endpoint, Switch}
-use Rattle.fabric_map.specs.declared.map.Device.{Device}
-use Rattle.fabric_map.specs.Topology.{Topology}
-use Rattle.fabric_map.specs.Numbered.{device_has_id, is_given, IsIdOf, IsKindAt, AreDescribed}
+use Rattle.fabric_map.proofs.Prelude.{◌≡◌, ℕ, zero, suc, ◌==◌, ◌||◌, Bool, true, false, List, [], ◌∷◌, ◌++◌, Contains, arith, refl, ap, ◌∙◌, subst, sym, inl, inr, ◌⊎◌, find, Some, Option, cond, None, eqb-true, or_right, list_any-append, Kind, Endpoint, Switch, Device, Topology, device_has_id, is_given, IsIdOf, IsKindAt, AreDescribed}
 use Rattle.fabric_map.proofs.Lists.{Contains-cases}
 
 pub has_id-endpoint : (device : Device) (id given : ℕ) → device.kind ≡ Endpoint given

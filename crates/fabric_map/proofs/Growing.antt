@@ -1,12 +1,5 @@
 -- Lists of devices as they grow, and the paths of their devices.
-use Rattle.std.proofs.Common.{◌≡◌, ◌≢◌, ℕ, List, [], ◌∷◌, ◌++◌, Option, Some, None, option_map, Contains, arith, ◌⊎◌, inl, inr, subst, sym, refl, ap, ◌∙◌, append-nil, append_assoc}
-use Rattle.std.proofs.lemmas.Option.{same_Some}
-use Rattle.fabric_script.specs.declared.ports.PortRef.{PortRef}
-use Rattle.fabric_map.specs.declared.map.Kind.{Kind}
-use Rattle.fabric_map.specs.declared.map.Kind.TheVariants.{Endpoint, Switch}
-use Rattle.fabric_map.specs.declared.map.Device.{Device}
-use Rattle.fabric_map.specs.Topology.{Topology, entered, node_at}
-use Rattle.fabric_map.specs.Numbered.{paths_of, IsKindAt, IsDescribed, AreDescribed}
+use Rattle.fabric_map.proofs.Prelude.{◌≡◌, ◌≢◌, ℕ, List, [], ◌∷◌, ◌++◌, Option, Some, None, option_map, Contains, arith, ◌⊎◌, inl, inr, subst, sym, refl, ap, ◌∙◌, append-nil, append_assoc, same_Some, PortRef, Kind, Endpoint, Switch, Device, Topology, entered, node_at, paths_of, IsKindAt, IsDescribed, AreDescribed}
 use Rattle.fabric_map.proofs.Lists.{Contains-first, Contains-rest, Contains-cases}
 use Rattle.fabric_map.proofs.EntryLaws.{map-push}
 

@@ -1,11 +1,5 @@
 -- Where paths lead: whatever is reached is met by a whole walk.
-use Rattle.std.proofs.Common.{◌≡◌, ℕ, ◌<◌, ◌≤◌, nat_lt, Bool, true, false, List, [], ◌∷◌, ◌++◌, Option, Some, None, IsSome, option_map, Contains, inl, subst, sym, refl, ap, ◌∙◌, if◌then◌else◌, ltb-true, eq-eqb}
-use Rattle.std.specs.Option.{option_and_then}
-use Rattle.std.proofs.lemmas.List.Elements.{All-contains}
-use Rattle.fabric_script.specs.declared.ports.PortRef.{PortRef}
-use Rattle.fabric_script.specs.Ports.{port_at}
-use Rattle.fabric_map.specs.Topology.{Topology, ports_followed, behind_port, along, entered, node_at, IsReached}
-use Rattle.fabric_map.specs.Walked.{Before, IsNotAfter, onward, Walked, after_all_paths}
+use Rattle.fabric_map.proofs.Prelude.{◌≡◌, ℕ, ◌<◌, ◌≤◌, nat_lt, Bool, true, false, List, [], ◌∷◌, ◌++◌, Option, Some, None, IsSome, option_map, Contains, inl, subst, sym, refl, ap, ◌∙◌, if◌then◌else◌, ltb-true, eq-eqb, option_and_then, All-contains, PortRef, port_at, Topology, ports_followed, behind_port, along, entered, node_at, IsReached, Before, IsNotAfter, onward, Walked, after_all_paths}
 use Rattle.fabric_map.proofs.Order.{further_from_between}
 
 -- the device of a port

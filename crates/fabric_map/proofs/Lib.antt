@@ -1,3 +1,4 @@
+mod Prelude
 pub mod Order
 pub mod Lists
 pub mod Walks

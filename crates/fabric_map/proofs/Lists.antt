@@ -1,7 +1,5 @@
 -- Elements of lists in order.
-use Rattle.std.proofs.Common.{◌≡◌, ℕ, zero, suc, ◌<◌, List, [], ◌∷◌, ◌++◌, length, slice_index_or, All, AllPairs, Contains, arith, ◌⊎◌, inl, inr, subst, sym, refl}
-use Rattle.std.proofs.lemmas.List.Elements.{All-contains, Contains-append_right, Contains-append_cases}
-use Rattle.fabric_map.specs.Walked.{Before}
+use Rattle.fabric_map.proofs.Prelude.{◌≡◌, ℕ, zero, suc, ◌<◌, List, [], ◌∷◌, ◌++◌, length, slice_index_or, All, AllPairs, Contains, arith, ◌⊎◌, inl, inr, subst, sym, refl, All-contains, Contains-append_right, Contains-append_cases, Before}
 use Rattle.fabric_map.proofs.Order.{Before-irreflexive, Before-transitive}
 
 pub not_in_empty : {X : Type 0} (x : X) → ¬ Contains [] x

@@ -1,14 +1,5 @@
 -- One fabric has one map.
-use Rattle.std.proofs.Common.{◌≡◌, ℕ, ◌<◌, List, [], ◌∷◌, ◌++◌, Option, Some, None, ◌⊎◌, inl, inr, subst, sym, refl, ap, ◌∙◌}
-use Rattle.std.proofs.lemmas.Bool.{cases_order}
-use Rattle.fabric_script.specs.declared.ports.PortRef.{PortRef}
-use Rattle.fabric_map.specs.declared.map.Kind.{Kind}
-use Rattle.fabric_map.specs.declared.map.Kind.TheVariants.{Endpoint, Switch}
-use Rattle.fabric_map.specs.declared.map.Device.{Device}
-use Rattle.fabric_map.specs.declared.map.Entry.{Entry}
-use Rattle.fabric_map.specs.Topology.{Topology, entered}
-use Rattle.fabric_map.specs.Walked.{after_all_paths}
-use Rattle.fabric_map.specs.Numbered.{paths_of, IsLeastFree, IsIdOf, IsKindAt, IsDescribed, AreDescribed, entries_of, IsMap}
+use Rattle.fabric_map.proofs.Prelude.{◌≡◌, ℕ, ◌<◌, List, [], ◌∷◌, ◌++◌, Option, Some, None, ◌⊎◌, inl, inr, subst, sym, refl, ap, ◌∙◌, cases_order, PortRef, Kind, Endpoint, Switch, Device, Entry, Topology, entered, after_all_paths, paths_of, IsLeastFree, IsIdOf, IsKindAt, IsDescribed, AreDescribed, entries_of, IsMap}
 use Rattle.fabric_map.proofs.Walks.{one_walk}
 
 least_one : (before : List Device) (a b : ℕ) → IsLeastFree before a → IsLeastFree before b → a ≡ b

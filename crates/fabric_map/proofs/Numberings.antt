@@ -1,11 +1,5 @@
 -- What the registers of a numbered ring are.
-use Rattle.std.proofs.Common.{◌≡◌, ◌≢◌, ℕ, ◌<◌, List, [], ◌∷◌, Some, None, Contains, arith, ◌⊎◌, inl, inr, refl, sym, subst, ap, ◌∙◌}
-use Rattle.std.proofs.lemmas.Option.{same_Some}
-use Rattle.fabric_script.specs.declared.ports.PortRef.{PortRef}
-use Rattle.fabric_script.specs.Ports.{port_at}
-use Rattle.maint_registers.specs.Routes.{entry_of, next_port}
-use Rattle.fabric_map.specs.Routes.{AllRegisters, Arrives, AtEndpoint, ThroughSwitch, PacketComes}
-use Rattle.fabric_map.specs.Examples.{ring, IsRing, example_endpoint, switch, entry}
+use Rattle.fabric_map.proofs.Prelude.{◌≡◌, ◌≢◌, ℕ, ◌<◌, [], ◌∷◌, Some, None, Contains, arith, ◌⊎◌, inl, inr, refl, sym, subst, ap, ◌∙◌, same_Some, PortRef, port_at, entry_of, next_port, AllRegisters, Arrives, AtEndpoint, ThroughSwitch, PacketComes, ring, IsRing, example_endpoint, switch, entry}
 use Rattle.fabric_map.proofs.Lists.{Contains-cases, not_in_empty}
 use Rattle.fabric_map.proofs.Ring.{unlinked_is_not_reached}
 

@@ -1,7 +1,5 @@
 -- The order of paths.
-use Rattle.std.proofs.Common.{◌≡◌, ℕ, ◌+◌, ◌<◌, ◌≤◌, List, [], ◌∷◌, ◌++◌, arith, ◌⊎◌, inl, inr, ap, sym, refl}
-use Rattle.std.proofs.lemmas.Bool.{cases_order}
-use Rattle.fabric_map.specs.Walked.{Before, IsNotAfter, onward}
+use Rattle.fabric_map.proofs.Prelude.{◌≡◌, ℕ, ◌+◌, ◌<◌, ◌≤◌, List, [], ◌∷◌, ◌++◌, arith, ◌⊎◌, inl, inr, ap, sym, refl, cases_order, Before, IsNotAfter, onward}
 
 pub Before-irreflexive : (p : List ℕ) → ¬ Before p p
 Before-irreflexive [] before = absurd before

@@ -1,11 +1,5 @@
 -- The map of the ring.
-use Rattle.std.proofs.Common.{◌≡◌, ℕ, zero, suc, ◌<◌, ◌==◌, true, take, List, [], ◌∷◌, Option, Some, None, IsSome, Contains, arith, inl, inr, subst, sym, refl, ap, ◌∙◌, if◌then◌else◌}
-use Rattle.std.proofs.lemmas.List.Elements.{Contains-get_or}
-use Rattle.fabric_script.specs.Ports.{port_at}
-use Rattle.fabric_map.specs.Topology.{node_at, IsReached}
-use Rattle.fabric_map.specs.Walked.{IsNotAfter, onward, IsMet, Walked, after_all_paths}
-use Rattle.fabric_map.specs.Numbered.{is_given, AreDescribed, given_ids, IsMap}
-use Rattle.fabric_map.specs.Examples.{ring, ring_devices, ring_entries}
+use Rattle.fabric_map.proofs.Prelude.{◌≡◌, ℕ, zero, suc, ◌<◌, ◌==◌, true, take, List, [], ◌∷◌, Option, Some, None, IsSome, Contains, arith, inl, inr, subst, sym, refl, ap, ◌∙◌, if◌then◌else◌, Contains-get_or, port_at, node_at, IsReached, IsNotAfter, onward, IsMet, Walked, after_all_paths, is_given, AreDescribed, given_ids, IsMap, ring, ring_devices, ring_entries}
 use Rattle.fabric_map.proofs.Order.{front_of, front_of-onward}
 use Rattle.fabric_map.proofs.Lists.{AllPairs-rising}
 use Rattle.fabric_map.proofs.Leading.{leads_before_all, onward_is_followed, each_is_reached}

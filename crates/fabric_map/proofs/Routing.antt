@@ -1,16 +1,5 @@
 -- Packets for an ID come to its endpoint if each switch of a walk sends them down the tree or home.
-use Rattle.std.proofs.Common.{◌≡◌, ◌≢◌, ℕ, zero, suc, ◌<◌, true, List, [], ◌∷◌, ◌++◌, length, Option, Some, None, IsSome, unwrap_or, Contains, arith, ◌⊎◌, inl, inr, subst, sym, refl, ap, ◌∙◌, append_assoc, length-append}
-use Rattle.std.specs.Option.{option_and_then}
-use Rattle.std.proofs.lemmas.Option.{same_Some}
-use Rattle.fabric_script.specs.declared.ports.PortRef.{PortRef}
-use Rattle.fabric_script.specs.Ports.{port_at}
-use Rattle.maint_registers.specs.Routes.{next_port}
-use Rattle.fabric_map.specs.declared.map.Kind.TheVariants.{Switch}
-use Rattle.fabric_map.specs.declared.map.Device.{Device}
-use Rattle.fabric_map.specs.Topology.{Topology, IsTopology, behind_port, along, entered, node_at}
-use Rattle.fabric_map.specs.Walked.{onward, Walked, after_all_paths}
-use Rattle.fabric_map.specs.Routes.{AllRegisters, Arrives, AtEndpoint, ThroughSwitch, PacketComes}
-use Rattle.fabric_map.specs.Numbered.{device_has_id, paths_of, toward, port_toward, port_for, AreDescribed}
+use Rattle.fabric_map.proofs.Prelude.{◌≡◌, ◌≢◌, ℕ, zero, suc, ◌<◌, true, List, [], ◌∷◌, ◌++◌, length, Option, Some, None, IsSome, unwrap_or, Contains, arith, ◌⊎◌, inl, inr, subst, sym, refl, ap, ◌∙◌, append_assoc, length-append, option_and_then, same_Some, PortRef, port_at, next_port, Switch, Device, Topology, IsTopology, behind_port, along, entered, node_at, onward, Walked, after_all_paths, AllRegisters, Arrives, AtEndpoint, ThroughSwitch, PacketComes, device_has_id, paths_of, toward, port_toward, port_for, AreDescribed}
 use Rattle.fabric_map.proofs.Walks.{last_port}
 use Rattle.fabric_map.proofs.Leading.{along-onward, along-append, port_of_entry, followed-host}
 use Rattle.fabric_map.proofs.Ways.{behind-link, followed-switch}

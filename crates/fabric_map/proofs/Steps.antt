@@ -1,10 +1,6 @@
 -- How a walk goes on.
-use Rattle.std.proofs.Common.{◌≡◌, ◌≢◌, ℕ, ◌+◌, ◌<◌, List, [], ◌∷◌, ◌++◌, IsSome, Contains, arith, ◌⊎◌, inl, inr, subst, sym, ap, ◌∙◌, append_assoc, append-nil}
-use Rattle.std.proofs.lemmas.List.Elements.{All-contains, All-push, All-weaker, Contains-push, Contains-push_cases, Contains-append_left}
+use Rattle.fabric_map.proofs.Prelude.{◌≡◌, ◌≢◌, ℕ, ◌+◌, ◌<◌, List, [], ◌∷◌, ◌++◌, IsSome, Contains, arith, ◌⊎◌, inl, inr, subst, sym, ap, ◌∙◌, append_assoc, append-nil, All-contains, All-push, All-weaker, Contains-push, Contains-push_cases, Contains-append_left, Topology, node_at, Before, IsNotAfter, onward, IsMet, Walked, IsNext}
 use Rattle.std.proofs.lemmas.List.Quantifiers.{all_pairs_push}
-use Rattle.fabric_map.specs.Topology.{Topology, node_at}
-use Rattle.fabric_map.specs.Walked.{Before, IsNotAfter, onward, IsMet, Walked}
-use Rattle.fabric_map.specs.Locked.{IsNext}
 use Rattle.fabric_map.proofs.Order.{Before-transitive, Before-further, onward-rises, further-not_less, below_next, below_first, behind_front, with_front, front_of, front_of-onward, last_of, last_of-onward, onward-not_empty}
 use Rattle.fabric_map.proofs.Lists.{not_in_empty}
 use Rattle.fabric_map.proofs.Walks.{last_port}

@@ -1,14 +1,6 @@
 -- What stands in the entries of a map.
-use Rattle.std.proofs.Common.{◌≡◌, ℕ, ◌+◌, ◌<◌, ◌||◌, Bool, true, false, cond, List, [], ◌∷◌, ◌++◌, length, map, filter, flat_map, Contains, arith, ◌⊎◌, inl, inr, subst, sym, refl, ap, ◌∙◌, length-append}
-use Rattle.std.specs.List.{list_any}
-use Rattle.std.proofs.lemmas.List.Elements.{Contains-append_cases}
+use Rattle.fabric_map.proofs.Prelude.{◌≡◌, ℕ, ◌+◌, ◌<◌, ◌||◌, Bool, true, false, cond, List, [], ◌∷◌, ◌++◌, length, map, filter, flat_map, Contains, arith, ◌⊎◌, inl, inr, subst, sym, refl, ap, ◌∙◌, length-append, list_any, Contains-append_cases, Kind, Endpoint, Switch, Device, Entry, Topology, device_has_id, is_given, port_for, numbers_below, given_ids, entries_at, entries_of, AreDescribed}
 use Rattle.std.proofs.lemmas.List.Concat.{flat_map-cons}
-use Rattle.fabric_map.specs.declared.map.Kind.{Kind}
-use Rattle.fabric_map.specs.declared.map.Kind.TheVariants.{Endpoint, Switch}
-use Rattle.fabric_map.specs.declared.map.Device.{Device}
-use Rattle.fabric_map.specs.declared.map.Entry.{Entry}
-use Rattle.fabric_map.specs.Topology.{Topology}
-use Rattle.fabric_map.specs.Numbered.{device_has_id, is_given, port_for, numbers_below, given_ids, entries_at, entries_of, AreDescribed}
 use Rattle.fabric_map.proofs.Lists.{not_in_empty, Contains-first, Contains-rest, Contains-cases}
 
 listed-flat_map : {X Y : Type 0} (f : X → List Y) (xs : List X) (y : Y)

@@ -1,9 +1,5 @@
 -- Two walks of one fabric meet the same devices, as far as both go.
-use Rattle.std.proofs.Common.{◌≡◌, ℕ, List, [], ◌∷◌, ◌++◌, IsSome, Contains, AllPairs, ◌⊎◌, inl, inr, subst, sym, refl, ◌∙◌, ap, append_assoc, append-nil}
-use Rattle.std.proofs.lemmas.List.Elements.{All-contains, Contains-append_left}
-use Rattle.fabric_map.specs.Topology.{Topology, node_at}
-use Rattle.fabric_map.specs.Walked.{Before, IsNotAfter, onward, IsMet, Walked}
-use Rattle.fabric_map.specs.Locked.{IsNext}
+use Rattle.fabric_map.proofs.Prelude.{◌≡◌, ℕ, List, [], ◌∷◌, ◌++◌, IsSome, Contains, AllPairs, ◌⊎◌, inl, inr, subst, sym, refl, ◌∙◌, ap, append_assoc, append-nil, All-contains, Contains-append_left, Topology, node_at, Before, IsNotAfter, onward, IsMet, Walked, IsNext}
 use Rattle.fabric_map.proofs.Order.{Before-irreflexive, Before-transitive, Before-further, compared}
 use Rattle.fabric_map.proofs.Lists.{front_is_before, is_in_front, Contains-middle}
 

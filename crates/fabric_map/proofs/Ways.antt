@@ -1,11 +1,5 @@
 -- A request goes down its path, and its answer comes home.
-use Rattle.std.proofs.Common.{◌≡◌, ◌≢◌, ℕ, zero, suc, ◌+◌, ◌<◌, ◌≤◌, ◌==◌, nat_lt, Bool, true, false, List, [], ◌∷◌, ◌++◌, length, Option, Some, None, unwrap_or, arith, subst, sym, refl, ap, ◌∙◌, if◌then◌else◌, ltb-true, eqb-true, append_assoc}
-use Rattle.std.specs.Option.{option_and_then}
-use Rattle.fabric_script.specs.declared.ports.PortRef.{PortRef}
-use Rattle.fabric_script.specs.Ports.{port_at}
-use Rattle.maint_registers.specs.Routes.{next_port}
-use Rattle.fabric_map.specs.Topology.{Topology, IsTopology, ports_followed, behind_port, along, entered}
-use Rattle.fabric_map.specs.Routes.{AllRegisters, passed, walk}
+use Rattle.fabric_map.proofs.Prelude.{◌≡◌, ◌≢◌, ℕ, zero, suc, ◌+◌, ◌<◌, ◌≤◌, ◌==◌, nat_lt, Bool, true, false, List, [], ◌∷◌, ◌++◌, length, Option, Some, None, unwrap_or, arith, subst, sym, refl, ap, ◌∙◌, if◌then◌else◌, ltb-true, eqb-true, append_assoc, option_and_then, PortRef, port_at, next_port, Topology, IsTopology, ports_followed, behind_port, along, entered, AllRegisters, passed, walk}
 use Rattle.fabric_map.specs.Ways.{IsOpened}
 use Rattle.fabric_map.proofs.Leading.{followed-host, along-append}
 

@@ -1,12 +1,5 @@
 -- Known maps and wrong ones.
-use Rattle.std.proofs.Common.{◌≡◌, ℕ, zero, suc, List, [], ◌∷◌, Option, Some, None, Contains, arith, inl, inr, subst, sym, refl, ap}
-use Rattle.fabric_map.specs.declared.map.Kind.TheVariants.{Endpoint}
-use Rattle.fabric_map.specs.declared.map.Device.{Device}
-use Rattle.fabric_map.specs.declared.map.Entry.{Entry}
-use Rattle.fabric_map.specs.Topology.{Topology, node_at}
-use Rattle.fabric_map.specs.Walked.{Before, IsNotAfter, IsMet, Walked, after_all_paths}
-use Rattle.fabric_map.specs.Numbered.{IsDescribed, IsIdOf, IsKindAt, IsMap}
-use Rattle.fabric_map.specs.Examples.{ring, skipped, twice_linked, numbered_twice, from_highest, left_out, example_endpoint}
+use Rattle.fabric_map.proofs.Prelude.{◌≡◌, ℕ, zero, suc, List, [], ◌∷◌, Option, Some, None, Contains, arith, inl, inr, subst, sym, refl, ap, Endpoint, Device, Entry, Topology, node_at, Before, IsNotAfter, IsMet, Walked, after_all_paths, IsDescribed, IsIdOf, IsKindAt, IsMap, ring, skipped, twice_linked, numbered_twice, from_highest, left_out, example_endpoint}
 
 -- the ID of an endpoint is right
 id_of : (topology : Topology) (host_id id : ℕ) (before : List Device) (tag : ℕ) (path : List ℕ)

@@ -1,3 +1,4 @@
+mod Prelude
 pub mod Machines
 pub mod Stepping
 mod Lows

@@ -1,23 +1,7 @@
 -- What a walker writes has an offset that a request can name, and while it locks its own host it
 -- asks that alone.
-use Rattle.std.proofs.Common.{◌≡◌, ℕ, ◌+◌, ◌*◌, ◌/◌, ◌%◌, ◌==◌, zero, suc, nat_lt, Bool, true, false, eqb, List, [], ◌∷◌, ◌++◌, Option, Some, None, arith, refl, if◌then◌else◌}
-use Rattle.fabric_script.specs.declared.ports.PortRef.{PortRef}
+use Rattle.host_contest.proofs.Prelude.{◌≡◌, ℕ, ◌+◌, ◌*◌, ◌/◌, ◌%◌, ◌==◌, zero, suc, nat_lt, Bool, true, false, eqb, List, [], ◌∷◌, ◌++◌, Option, Some, None, arith, refl, if◌then◌else◌, PortRef, Endpoint, Switch, Device, entered, AllRegisters, toward, answered, id_after, met_as, Asked, PendingWrite, Tried, Stage, Ask, Claim, Check, Test, Features, Information, Status, Free, Done, Lost, Walker, write, entry_set, route_of, route_pending, routes_to, cleared_below, home_set, last_path, but_last, freeing, port_after, gone_on, taken, judged, numbered, outward, wants, settled, walker_told, told_at, reached, reaches, stepped, is_locking, IsOfLock, IsAtHost, AreLow}
 use Rattle.fabric_map.specs.declared.map.Kind.{Kind}
-use Rattle.fabric_map.specs.declared.map.Kind.TheVariants.{Endpoint, Switch}
-use Rattle.fabric_map.specs.declared.map.Device.{Device}
-use Rattle.fabric_map.specs.Topology.{entered}
-use Rattle.fabric_map.specs.Routes.{AllRegisters}
-use Rattle.fabric_map.specs.Numbered.{toward}
-use Rattle.host_enumerate.specs.Accesses.{answered}
-use Rattle.host_enumerate.specs.Underway.{id_after, met_as}
-use Rattle.contest_machine.specs.declared.stages.Asked.{Asked}
-use Rattle.contest_machine.specs.declared.stages.PendingWrite.{PendingWrite}
-use Rattle.contest_machine.specs.declared.stages.Tried.{Tried}
-use Rattle.contest_machine.specs.declared.stages.Stage.{Stage}
-use Rattle.contest_machine.specs.declared.stages.Stage.TheVariants.{Ask, Claim, Check, Test, Features, Information, Status, Free, Done, Lost}
-use Rattle.contest_machine.specs.Machine.{Walker, write, entry_set, route_of, route_pending, routes_to, cleared_below, home_set, last_path, but_last, freeing, port_after, gone_on, taken, judged, numbered, outward, wants, settled, walker_told, told_at, reached, reaches, stepped}
-use Rattle.contest_machine.specs.Turns.{is_locking}
-use Rattle.host_contest.specs.Reaching.{IsOfLock, IsAtHost, AreLow}
 
 low-append : (first second : List PendingWrite) → AreLow first → AreLow second
     → AreLow (first ++ second)

@@ -1,18 +1,6 @@
 -- Steps of the machine, of a walker that was changed in part before.
-use Rattle.std.proofs.Common.{◌≡◌, ◌≤◌, ◌==◌, ◌++◌, ◌+◌, ◌-◌, ◌*◌, ◌&&◌, ℕ, suc, take, ne_eqb, nat_lt, Bool, true, false, List, [], ◌∷◌, length, Some, None, Result, Ok, Err, OnOk, arith, refl, sym, ap, subst, ◌∙◌, if◌then◌else◌}
+use Rattle.host_contest.proofs.Prelude.{◌≡◌, ◌≤◌, ◌==◌, ◌++◌, ◌+◌, ◌-◌, ◌*◌, ◌&&◌, ℕ, suc, take, ne_eqb, nat_lt, Bool, true, false, List, [], ◌∷◌, length, Some, None, Result, Ok, Err, OnOk, arith, refl, sym, ap, subst, ◌∙◌, if◌then◌else◌, Device, Endpoint, Switch, Topology, id_after, PendingWrite, Tried, Stage, Ask, Claim, Check, Test, Features, Information, Status, Free, Done, Lost, Walker, write, routes_to, but_last, freeing, port_after, gone_on, numbered, switch_set_up, settled, told_with, walker_told, AreShort, IsBoundedAt, machine_of, new_walker, device_added, with_home, with_tried, port_left, is_clear, is_numbered, machine_is_done, Machine}
 use Rattle.std.proofs.lemmas.Bool.{eqb-true}
-use Rattle.fabric_map.specs.declared.map.Device.{Device}
-use Rattle.fabric_map.specs.declared.map.Kind.TheVariants.{Endpoint, Switch}
-use Rattle.fabric_map.specs.Topology.{Topology}
-use Rattle.host_enumerate.specs.Underway.{id_after}
-use Rattle.contest_machine.specs.declared.stages.PendingWrite.{PendingWrite}
-use Rattle.contest_machine.specs.declared.stages.Tried.{Tried}
-use Rattle.contest_machine.specs.declared.stages.Stage.{Stage}
-use Rattle.contest_machine.specs.declared.stages.Stage.TheVariants.{Ask, Claim, Check, Test, Features, Information, Status, Free, Done, Lost}
-use Rattle.contest_machine.specs.Machine.{Walker, write, routes_to, but_last, freeing, port_after, gone_on, numbered, switch_set_up, settled, told_with, walker_told}
-use Rattle.contest_machine.specs.Within.{AreShort, IsBoundedAt}
-use Rattle.host_contest.specs.Machines.{machine_of, new_walker, device_added, with_home, with_tried, port_left, is_clear, is_numbered, machine_is_done}
-use Rattle.host_contest.specs.declared.machine.Machine.{Machine}
 
 -- a list without elements
 pub no_length : {A : Type 0} (l : List A) → (length l == 0) ≡ true → l ≡ []
@@ -216,8 +204,7 @@ freeing_over w before (device ∷ rest) = refl
 
 pub freed_so : (w after : Walker) (devices : List Device) → devices ≡ but_last w.devices
     → after ≡ freeing (with_devices w devices) devices → after ≡ freeing w (but_last w.devices)
-freed_so w after devices is freed =
-    freed ∙ (freeing_over w devices devices ∙ ap (freeing w) is)
+freed_so w after devices is freed = freed ∙ (freeing_over w devices devices ∙ ap (freeing w) is)
 
 -- a walker that has asked nothing is not done
 pub new_is_not_done : (machine : Machine) (id : ℕ)

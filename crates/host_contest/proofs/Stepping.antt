@@ -1,27 +1,13 @@
 -- One access of a walker over a fabric, and its turns.
-use Rattle.std.proofs.Common.{◌≡◌, ◌<◌, ◌≤◌, Bool, true, false, length, Some, None, arith, refl, sym, ap, subst, ◌∙◌, length-append, if◌then◌else◌}
+use Rattle.host_contest.proofs.Prelude.{◌≡◌, ◌<◌, ◌≤◌, Bool, true, false, length, Some, None, arith, refl, sym, ap, subst, ◌∙◌, length-append, if◌then◌else◌, PortRef, Device, Topology, entered, AllRegisters, paths_of, answered, after_access, Asked, Walker, State, kept, fresh, wants, walker_told, reached, reaches, stepped, is_locking, locked_on, walker_turned, came_of, WalkerIsWithin, Machine, machine_of, IsAtHost, AreLow, state_in, CanStep}
 use Rattle.std.proofs.lemmas.List.{length-map}
-use Rattle.fabric_script.specs.declared.ports.PortRef.{PortRef}
-use Rattle.fabric_map.specs.declared.map.Device.{Device}
-use Rattle.fabric_map.specs.Topology.{Topology, entered}
-use Rattle.fabric_map.specs.Routes.{AllRegisters}
-use Rattle.fabric_map.specs.Numbered.{paths_of}
 use Rattle.host_enumerate.specs.declared.maint.Answer.{Answer}
-use Rattle.host_enumerate.specs.Accesses.{answered, after_access}
-use Rattle.contest_machine.specs.declared.stages.Asked.{Asked}
-use Rattle.contest_machine.specs.Machine.{Walker, State, kept, fresh, wants, walker_told, reached, reaches, stepped}
 use Rattle.contest_machine.specs.Contest.{IsMine}
 use Rattle.contest_machine.specs.declared.stages.Turn.{Turn}
-use Rattle.contest_machine.specs.Turns.{is_locking, locked_on, walker_turned, came_of}
-use Rattle.contest_machine.specs.Within.{WalkerIsWithin}
 use Rattle.contest_machine.proofs.Keeping.Apart.{step_leaves}
 use Rattle.contest_machine.proofs.Keeping.Bounding.{stepped_within}
 use Rattle.contest_machine.proofs.Keeping.Few.{once_few}
-use Rattle.host_contest.specs.declared.machine.Machine.{Machine}
-use Rattle.host_contest.specs.Machines.{machine_of}
 use Rattle.host_contest.proofs.Machines.{choose, refuse}
-use Rattle.host_contest.specs.Reaching.{IsAtHost, AreLow}
-use Rattle.host_contest.specs.Steps.{state_in, CanStep}
 use Rattle.host_contest.proofs.Lows.{low-stepped, stays_at_host}
 
 abbrev state_of : Walker → AllRegisters → State
@@ -92,8 +78,7 @@ turned_first w r is =
 -- three states, each of the one before
 pub chain : {A : Type 0} (f : A → A) (begin first second third end : A) → first ≡ begin
     → second ≡ f first → third ≡ f second → f (f begin) ≡ end → third ≡ end
-chain f begin first second third end one two three last =
-    three ∙ (ap f (two ∙ ap f one) ∙ last)
+chain f begin first second third end one two three last = three ∙ (ap f (two ∙ ap f one) ∙ last)
 
 -- ---- the first turn
 

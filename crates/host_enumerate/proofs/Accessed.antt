@@ -1,18 +1,6 @@
 -- What an access leaves of plain registers, and what this is as a fabric.
 use Rattle.std.proofs.Common.{◌≡◌, ℕ, ◌/◌, ◌%◌, ◌^◌, ◌<◌, ◌≤◌, ◌⊎◌, inl, inr, Bool, true, false, eqb, List, length, set, get_or, slice_get, slice_set, slice_index_or, Option, Some, option_and_then, if◌then◌else◌, refl, sym, ap, subst, ◌∙◌}
-use Rattle.std.proofs.lemmas.List.{length-set, get_or-set_same, get_or-set_other}
-use Rattle.std.proofs.lemmas.Option.{slice_get-get_or, slice_get_past, slice_get_read, get_or_from_slice_get}
-use Rattle.std.proofs.lemmas.Bool.{cases_lt, eqb-true, eqb-false}
-use mathlib.Core.Path.{fun_ext}
-use Rattle.fabric_script.specs.declared.ports.PortRef.{PortRef}
-use Rattle.maint_registers.specs.Devices.{Registers, IsDevice, IsSameDevice, new_endpoint}
-use Rattle.maint_registers.proofs.SameLaws.{same_kind}
-use Rattle.fabric_map.specs.Topology.{Topology, IsTopology}
-use Rattle.fabric_map.specs.Routes.{AllRegisters}
-use Rattle.fabric_map.specs.Fitting.{Fits}
-use Rattle.host_enumerate.specs.declared.maint.Access.{Access}
-use Rattle.host_enumerate.specs.Accesses.{answered, registers_with, after_access}
-use Rattle.fabric_map.specs.Plain.{ports_of_switch, topology_of, registers_of}
+use Rattle.host_enumerate.proofs.Prelude.{length-set, get_or-set_same, get_or-set_other, slice_get-get_or, slice_get_past, slice_get_read, get_or_from_slice_get, cases_lt, eqb-true, eqb-false, fun_ext, PortRef, Registers, IsDevice, IsSameDevice, new_endpoint, same_kind, Topology, IsTopology, AllRegisters, Fits, Access, answered, registers_with, after_access, ports_of_switch, topology_of, registers_of}
 
 -- an access leaves the device what it is
 pub record Keeps (before after : Registers) : Type 0 where
@@ -93,8 +81,7 @@ switch_ports-set : (devices : List Registers) (node : ℕ) (device : Registers)
     → IsSameDevice (get_or devices node (new_endpoint 0 false)) device → (other : ℕ)
     → option_and_then ports_of_switch (slice_get (set devices node device) other)
     ≡ option_and_then ports_of_switch (slice_get devices other)
-switch_ports-set devices node device inside same other =
-    go (cases_lt other (length devices))
+switch_ports-set devices node device inside same other = go (cases_lt other (length devices))
   where
     first : Registers
     first = new_endpoint 0 false

@@ -1,21 +1,5 @@
 -- Which paths are open, and which devices they pass, while a fabric is numbered.
-use Rattle.std.proofs.Common.{◌≡◌, ◌≢◌, ℕ, ◌<◌, List, [], ◌∷◌, ◌++◌, length, Option, Some, None, unwrap_or, Contains, arith, ◌⊎◌, inl, inr, subst, sym, refl, ap, ◌∙◌, append-nil, length-append}
-use Rattle.std.specs.Option.{option_and_then}
-use Rattle.std.proofs.lemmas.Option.{same_Some}
-use Rattle.fabric_script.specs.declared.ports.PortRef.{PortRef}
-use Rattle.fabric_script.specs.Ports.{port_at}
-use Rattle.maint_registers.specs.Routes.{next_port}
-use Rattle.fabric_map.specs.Topology.{Topology, IsTopology, device_ports, behind_port, along, ports_followed, entered, node_at}
-use Rattle.fabric_map.specs.Walked.{Before, onward, Walked}
-use Rattle.fabric_map.specs.Routes.{AllRegisters}
-use Rattle.fabric_map.specs.Ways.{IsOpened}
-use Rattle.fabric_map.specs.Locked.{IsNext}
-use Rattle.fabric_map.proofs.Leading.{along-onward, followed-host}
-use Rattle.fabric_map.proofs.Ways.{behind-link, first_link}
-use Rattle.fabric_map.proofs.Steps.{onward_further}
-use Rattle.fabric_map.proofs.Fronts.{front_listed, passed_listed}
-use Rattle.fabric_map.proofs.Growing.{node_at-entered}
-use Rattle.host_enumerate.specs.Asking.{IsApart, PassesOnce}
+use Rattle.host_enumerate.proofs.Prelude.{◌≡◌, ◌≢◌, ℕ, ◌<◌, List, [], ◌∷◌, ◌++◌, length, Option, Some, None, unwrap_or, Contains, arith, ◌⊎◌, inl, inr, subst, sym, refl, ap, ◌∙◌, append-nil, length-append, option_and_then, same_Some, PortRef, port_at, next_port, Topology, IsTopology, device_ports, behind_port, along, ports_followed, entered, node_at, Before, onward, Walked, AllRegisters, IsOpened, IsNext, along-onward, followed-host, behind-link, first_link, onward_further, front_listed, passed_listed, node_at-entered, IsApart, PassesOnce}
 
 not_further : (front : List ℕ) (port : ℕ) (rest : List ℕ) → ¬ (front ≡ front ++ port ∷ rest)
 not_further front port rest same =
@@ -27,8 +11,7 @@ pub split-onward : (path front rest : List ℕ) (more port : ℕ)
     → onward path more ≡ front ++ port ∷ rest
     → ((path ≡ front) × (port ≡ more))
     ⊎ ((later : List ℕ) × (path ≡ front ++ port ∷ later))
-split-onward path front rest more port same =
-    go (onward_further path front (port ∷ rest) more same)
+split-onward path front rest more port same = go (onward_further path front (port ∷ rest) more same)
   where
     go : (onward path more ≡ front)
         ⊎ ((on : List ℕ) × (path ≡ front ++ on) × (port ∷ rest ≡ onward on more))
@@ -168,8 +151,7 @@ module _ (topology : Topology) (paths : List (List ℕ)) (bound : List ℕ)
       → Before [] bound → Contains paths path → entered topology path ≡ Some at
       → (path ≢ [] → port ≢ at.port) → entered topology (onward path port) ≡ Some end
       → end.node ≢ topology.host
-  not_host-next path at end port proper some listed enters apart ends is =
-      go path refl
+  not_host-next path at end port proper some listed enters apart ends is = go path refl
     where
       link : topology.peer (port_at at.node port) ≡ Some end
       link =
@@ -235,8 +217,7 @@ module _ (topology : Topology) (paths : List (List ℕ)) (bound : List ℕ)
 -- the neighbour of the host is another device
 pub not_host-first : (topology : Topology) (at : PortRef) → IsTopology topology
     → entered topology (0 ∷ []) ≡ Some at → at.node ≢ topology.host
-not_host-first topology at proper enters is =
-    go (behind_port topology topology.host 0) refl enters
+not_host-first topology at proper enters is = go (behind_port topology topology.host 0) refl enters
   where
     go : (o : Option PortRef) → behind_port topology topology.host 0 ≡ o
         → option_and_then (λ (next : PortRef). Some next) o ≡ Some at → ⊥

@@ -1,24 +1,5 @@
 -- When a host can ask a device, while a fabric is numbered.
-use Rattle.std.proofs.Common.{◌≡◌, ◌≢◌, ℕ, ◌≤◌, List, [], ◌∷◌, length, Some, None, Contains, arith, ◌⊎◌, inl, inr, subst, sym, refl, ap, ◌∙◌}
-use Rattle.std.proofs.lemmas.List.{length-map}
-use Rattle.std.proofs.lemmas.List.Elements.{All-contains}
-use Rattle.fabric_script.specs.declared.ports.PortRef.{PortRef}
-use Rattle.fabric_script.specs.Ports.{port_at}
-use Rattle.fabric_map.specs.declared.map.Kind.{Kind}
-use Rattle.fabric_map.specs.declared.map.Kind.TheVariants.{Endpoint, Switch}
-use Rattle.fabric_map.specs.declared.map.Device.{Device}
-use Rattle.fabric_map.specs.Topology.{Topology, entered, node_at}
-use Rattle.fabric_map.specs.Walked.{Before, Walked}
-use Rattle.fabric_map.specs.Routes.{AllRegisters}
-use Rattle.fabric_map.specs.Ways.{IsOpened}
-use Rattle.fabric_map.specs.Locked.{IsNext}
-use Rattle.fabric_map.specs.Numbered.{paths_of, AreDescribed, HasBaseId}
-use Rattle.fabric_map.proofs.Lists.{Contains-cases, AllPairs-first}
-use Rattle.fabric_map.proofs.Fronts.{not_before_empty}
-use Rattle.fabric_map.proofs.Few.{walked-few}
-use Rattle.fabric_map.proofs.Growing.{path_listed, host-first}
-use Rattle.host_enumerate.specs.Asking.{IsAskable}
-use Rattle.host_enumerate.specs.Underway.{IsUnmet, IsUnderway}
+use Rattle.host_enumerate.proofs.Prelude.{◌≡◌, ◌≢◌, ℕ, ◌≤◌, List, [], ◌∷◌, length, Some, None, Contains, arith, ◌⊎◌, inl, inr, subst, sym, refl, ap, ◌∙◌, length-map, All-contains, PortRef, port_at, Kind, Endpoint, Switch, Device, Topology, entered, node_at, Before, Walked, AllRegisters, IsOpened, IsNext, paths_of, AreDescribed, HasBaseId, Contains-cases, AllPairs-first, not_before_empty, walked-few, path_listed, host-first, IsAskable, IsUnmet, IsUnderway}
 use Rattle.host_enumerate.proofs.Meeting.{IsMember, member_or_unmet}
 use Rattle.host_enumerate.proofs.Lengthening.{next-short}
 use Rattle.host_enumerate.proofs.Askable.{opened-empty, not_host-listed}
@@ -81,8 +62,7 @@ module _ (topology : Topology) (before now : AllRegisters) (host_id next : ℕ)
       go : IsMember topology devices topology.host ⊎ IsUnmet topology devices topology.host
           → (now topology.host).base_id ≡ host_id
       go (inl member) = met member.0 member.1 member.2 member.0.path refl
-      go (inr unmet) =
-          ap (λ d. d.base_id) (underway.others topology.host unmet) ∙ underway.id
+      go (inr unmet) = ap (λ d. d.base_id) (underway.others topology.host unmet) ∙ underway.id
 
   pub most : length devices ≤ 64
   most =

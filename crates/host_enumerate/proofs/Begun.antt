@@ -1,20 +1,5 @@
 -- What the call that begins a walk knows.
-use Rattle.std.proofs.Common.{◌≡◌, ℕ, List, [], ◌∷◌, Option, Some, refl, sym, ap, subst, ◌∙◌}
-use Rattle.fabric_script.specs.declared.ports.PortRef.{PortRef}
-use Rattle.fabric_script.specs.Ports.{port_at}
-use Rattle.fabric_map.specs.declared.map.Kind.{Kind}
-use Rattle.fabric_map.specs.declared.map.Device.{Device}
-use Rattle.fabric_map.specs.Topology.{Topology}
-use Rattle.fabric_map.specs.Walked.{onward, after_all_paths}
-use Rattle.fabric_map.specs.Routes.{AllRegisters}
-use Rattle.fabric_map.specs.Locked.{IsNext}
-use Rattle.fabric_map.specs.Numbered.{paths_of}
-use Rattle.host_enumerate.specs.declared.maint.Maint.{Ghosts}
-use Rattle.host_enumerate.specs.declared.taking.Numbering.{Numbering}
-use Rattle.host_enumerate.specs.Asking.{IsAskable}
-use Rattle.host_enumerate.specs.Underway.{IsUnderway}
-use Rattle.host_enumerate.specs.Carrying.{IsNumbering}
-use Rattle.host_enumerate.specs.TakingIn.{IsTried}
+use Rattle.host_enumerate.proofs.Prelude.{◌≡◌, ℕ, List, [], ◌∷◌, Option, Some, refl, sym, ap, subst, ◌∙◌, PortRef, port_at, Kind, Device, Topology, onward, after_all_paths, AllRegisters, IsNext, paths_of, Ghosts, Numbering, IsAskable, IsUnderway, IsNumbering, IsTried}
 use Rattle.host_enumerate.proofs.Tried.{PathTried, still_underway}
 use Rattle.host_enumerate.proofs.Starting.{host_askable, host_met, first_enters, first_next, first_askable, first_underway}
 

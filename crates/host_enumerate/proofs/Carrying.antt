@@ -1,18 +1,13 @@
 -- Calls one after another, and the stop of a walk that began with an earlier one.
-use Rattle.std.proofs.Common.{◌≡◌, Result, Ok, Err, IfErr, refl, sym, subst, ◌∙◌}
+use Rattle.host_enumerate.proofs.Prelude.{◌≡◌, Result, Ok, Err, IfErr, refl, sym, subst, ◌∙◌, Topology, AllRegisters, Ghosts, walk_end_of, IsEnded, EndsAtLock, HasAnswered, StopsAtLock, HasWalkStopped, WalkWent}
 use Rattle.std.specs.Result.{IsErrAnd}
 use Rattle.rio_chars.specs.Faults.{Rose}
 use Rattle.fabric_map.specs.declared.map.Map.{Map}
-use Rattle.fabric_map.specs.Topology.{Topology}
-use Rattle.fabric_map.specs.Routes.{AllRegisters}
-use Rattle.host_enumerate.specs.declared.maint.Maint.{Ghosts}
 use Rattle.host_enumerate.specs.declared.maint.MaintEnd.{MaintEnd}
 use Rattle.host_enumerate.specs.declared.maint.MaintEnd.TheVariants as maint
 use Rattle.host_enumerate.specs.declared.ends.EnumEnd.{EnumEnd}
 use Rattle.host_enumerate.specs.declared.ends.EnumEnd.TheVariants.{LockedBy, Undetected, WriteFault, NoMemory}
-use Rattle.host_enumerate.specs.Ends.{walk_end_of, IsEnded, EndsAtLock}
 use Rattle.host_enumerate.specs.Enumerated.{IsEnumerated}
-use Rattle.host_enumerate.specs.Carrying.{HasAnswered, StopsAtLock, HasWalkStopped, WalkWent}
 
 -- no call
 pub answered_none : {S : Type 0} (m : Ghosts S) (now : S) → m.IsWhole now → HasAnswered m now now

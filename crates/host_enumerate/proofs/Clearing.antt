@@ -1,16 +1,5 @@
 -- A switch is set up.
-use Rattle.std.proofs.Common.{◌≡◌, ◌≢◌, ℕ, ◌+◌, ◌≤◌, ◌<◌, ◌⊎◌, inl, inr, true, List, length, slice_index_or, slice_set, Some, arith, refl, sym, ap, subst, ◌∙◌}
-use Rattle.std.proofs.lemmas.Bool.{cases_lt}
-use Rattle.std.proofs.lemmas.List.{length-set}
-use Rattle.fabric_script.specs.declared.ports.PortRef.{PortRef}
-use Rattle.maint_registers.specs.Devices.{Registers, is_switch}
-use Rattle.maint_registers.proofs.RouteLaws.{entry-set_same, entry-set_other}
-use Rattle.fabric_map.specs.Topology.{Topology, IsTopology, entered}
-use Rattle.fabric_map.specs.Routes.{AllRegisters}
-use Rattle.fabric_map.specs.Fitting.{Fits}
-use Rattle.fabric_map.proofs.Few.{entered-inside}
-use Rattle.host_enumerate.specs.Asking.{IsAskable, IsApart, Becomes}
-use Rattle.host_enumerate.specs.Setting.{with_entry, IsSameBut, IsCleared}
+use Rattle.host_enumerate.proofs.Prelude.{◌≡◌, ◌≢◌, ℕ, ◌+◌, ◌≤◌, ◌<◌, ◌⊎◌, inl, inr, true, List, length, slice_index_or, slice_set, Some, arith, refl, sym, ap, subst, ◌∙◌, cases_lt, length-set, PortRef, Registers, is_switch, entry-set_same, entry-set_other, Topology, IsTopology, entered, AllRegisters, Fits, entered-inside, IsAskable, IsApart, Becomes, with_entry, IsSameBut, IsCleared}
 use Rattle.host_enumerate.proofs.Frames.{with_device-itself}
 use Rattle.host_enumerate.proofs.Opening.{became}
 use Rattle.host_enumerate.proofs.Entries.{becomes-twice, askable-written}

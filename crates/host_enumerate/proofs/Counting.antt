@@ -1,12 +1,5 @@
 -- Which ID is given next, and that IDs are few.
-use Rattle.std.proofs.Common.{◌≡◌, ◌≢◌, ℕ, zero, suc, ◌+◌, ◌<◌, ◌≤◌, nat_lt, Bool, true, false, List, [], ◌∷◌, ◌++◌, length, Contains, arith, ◌⊎◌, inl, inr, subst, sym, refl, ap, ◌∙◌, if◌then◌else◌, ne_eqb, eq-eqb, length-append}
-use Rattle.std.proofs.lemmas.Bool.{cases_eq, cases_lt, lt-ltb, le-ltb}
-use Rattle.std.proofs.lemmas.List.Elements.{Contains-push_cases}
-use Rattle.fabric_map.specs.declared.map.Kind.TheVariants.{Endpoint, Switch}
-use Rattle.fabric_map.specs.declared.map.Device.{Device}
-use Rattle.fabric_map.specs.Numbered.{device_has_id, is_given, IsLeastFree}
-use Rattle.fabric_map.proofs.Given.{has_id-endpoint, has_id-switch, or_false, is_given-later, is_given-not, is_given-new}
-use Rattle.host_enumerate.specs.Underway.{id_after, given_below, IdsAreCounted}
+use Rattle.host_enumerate.proofs.Prelude.{◌≡◌, ◌≢◌, ℕ, zero, suc, ◌+◌, ◌<◌, ◌≤◌, nat_lt, Bool, true, false, List, [], ◌∷◌, ◌++◌, length, Contains, arith, ◌⊎◌, inl, inr, subst, sym, refl, ap, ◌∙◌, if◌then◌else◌, ne_eqb, eq-eqb, length-append, cases_eq, cases_lt, lt-ltb, le-ltb, Contains-push_cases, Endpoint, Switch, Device, device_has_id, is_given, IsLeastFree, has_id-endpoint, has_id-switch, or_false, is_given-later, is_given-not, is_given-new, id_after, given_below, IdsAreCounted}
 
 -- before the host nothing is given
 pub counted-none : (host_id : ℕ) → IdsAreCounted host_id [] 0
@@ -181,8 +174,7 @@ counted-least host_id next devices counted host = record {
         → ((next ≡ host_id) × (id_after host_id next ≡ next + 1))
         ⊎ ((next ≢ host_id) × (id_after host_id next ≡ next))
         → (lesser ≡ host_id) ⊎ (lesser ≢ host_id) → is_given devices lesser ≡ true
-    least lesser less is_next (inl same) =
-        subst (λ n. is_given devices n ≡ true) (sym same) host
+    least lesser less is_next (inl same) = subst (λ n. is_given devices n ≡ true) (sym same) host
     least lesser less (inl is_next) (inr other) =
         counted.below lesser (omega (arith, less, is_next.0, is_next.1, other)) other
     least lesser less (inr is_next) (inr other) =
@@ -195,8 +187,7 @@ id_after-few host_id next = go (cases_eq next host_id) (cases_lt host_id next)
     go : (next ≡ host_id) ⊎ (next ≢ host_id) → (host_id < next) ⊎ (next ≤ host_id)
         → id_after host_id next ≤ given_below host_id next
     go (inl same) (inl less) = absurd (omega (arith, same, less))
-    go (inl same) (inr more) =
-        rw (eq-eqb next host_id same, le-ltb host_id next more) (omega arith)
+    go (inl same) (inr more) = rw (eq-eqb next host_id same, le-ltb host_id next more) (omega arith)
     go (inr other) (inl less) =
         rw (ne_eqb next host_id other, lt-ltb host_id next less) (omega arith)
     go (inr other) (inr more) =

@@ -1,30 +1,11 @@
 -- What set-up lines of a script that passes make, line by line.
-use Rattle.std.proofs.Common.{◌≡◌, ◌≢◌, ℕ, zero, suc, ◌+◌, ◌<◌, ◌≤◌, ◌||◌, nat_le, nat_lt, Bool, true, false, List, [], ◌∷◌, ◌++◌, map, length, length-append, slice_get, Option, Some, None, is_some, append-nil, ◌&&◌, if◌then◌else◌, arith, refl, sym, ap, subst, ◌∙◌}
-use Rattle.std.proofs.lemmas.Bool.{or_parts, false≢true}
+use Rattle.host_enumerate.proofs.Prelude.{◌≡◌, ◌≢◌, ℕ, zero, suc, ◌+◌, ◌<◌, ◌≤◌, ◌||◌, nat_le, nat_lt, Bool, true, false, List, [], ◌∷◌, ◌++◌, map, length, length-append, slice_get, Option, Some, None, is_some, append-nil, ◌&&◌, if◌then◌else◌, arith, refl, sym, ap, subst, ◌∙◌, or_parts, false≢true, map-append, length-map, same_Some, Registers, is_switch, new_endpoint, new_switch, with_link, with_device, linked_at, routed, defaulted, held_by, large_set, map-with_device, PortRef, Node, Line, Numbered, PortTaken, WrongKind, TooMuchWork, new_name, Known, of_script, nothing, known_after, nodes_after, cost_of, node_ports, ports_of, node_is_switch, same_port, is_linked, peer_in, MayBe, IsFree, PassesFrom, port_at, port_is, same_port-refl, peer-linked, peer-before, peer-behind, with_linked_end, devices_after, devices_after_all, links_after_all}
 use Rattle.std.proofs.lemmas.Bool.Decides.{nat_tests}
-use Rattle.std.proofs.lemmas.List.{map-append, length-map}
 use Rattle.std.proofs.lemmas.List.Folds.{list_any-append}
-use Rattle.std.proofs.lemmas.Option.{same_Some}
-use Rattle.maint_registers.specs.Devices.{Registers, is_switch, new_endpoint, new_switch, with_link}
-use Rattle.maint_registers.specs.Changes.{with_device, linked_at, routed, defaulted, held_by, large_set}
-use Rattle.maint_registers.proofs.ChangeLaws.{map-with_device}
-use Rattle.fabric_script.specs.declared.ports.PortRef.{PortRef}
-use Rattle.fabric_script.specs.declared.known.Node.{Node}
 use Rattle.fabric_script.specs.declared.known.Node.TheVariants.{Endpoint as AnEndpoint, Switch as ASwitch}
-use Rattle.fabric_script.specs.declared.lines.Line.{Line}
 use Rattle.fabric_script.specs.declared.lines.Line.TheVariants.{Endpoint, Switch, Link, Route, Default, Lock, Large}
-use Rattle.fabric_script.specs.declared.lines.Numbered.{Numbered}
-use Rattle.fabric_script.specs.declared.reasons.Reason.TheVariants.{PortTaken, WrongKind, TooMuchWork}
-use Rattle.fabric_script.specs.Lines.{new_name}
 use Rattle.fabric_script.specs.Refusals.{makes_node, counts_work}
-use Rattle.fabric_script.specs.Known.{Known, of_script, nothing, known_after, nodes_after, cost_of, node_ports, ports_of, node_is_switch, same_port, is_linked}
-use Rattle.fabric_script.specs.Peers.{peer_in}
-use Rattle.fabric_script.specs.Reading.{MayBe, IsFree}
-use Rattle.fabric_script.specs.Scripts.{PassesFrom}
-use Rattle.fabric_script.specs.Ports.{port_at}
 use Rattle.fabric_script.proofs.KnownLaws.{count-after}
-use Rattle.fabric_script.proofs.PeerLaws.{port_is, same_port-refl, peer-linked, peer-before, peer-behind}
-use Rattle.host_enumerate.specs.Devised.{with_linked_end, devices_after, devices_after_all, links_after_all}
 use Rattle.host_enumerate.proofs.NewDevices.{IsNew, AreNew, new_endpoint_is, new_switch_is, routed_is, defaulted_is, held_by_is, large_set_is, kind_known, also, are_changed, are_linked, are_longer, are_as}
 
 -- ---- what is known of earlier lines, and what they make
@@ -127,8 +108,7 @@ module _ (known : Known) (new : List ℕ) (devices : List Registers)
 
   -- a port behind all nodes has no link
   unlinked : (port : ℕ) → is_linked known.links (port_at (length devices) port) ≡ false
-  unlinked port =
-      go (peer_in known.links p) refl (peer-linked known.links p)
+  unlinked port = go (peer_in known.links p) refl (peer-linked known.links p)
     where
       p : PortRef
       p = port_at (length devices) port

@@ -1,15 +1,5 @@
 -- What the writes of a host do to the device that it asks.
-use Rattle.std.proofs.Common.{rules, ◌≡◌, ◌≢◌, ℕ, ◌%◌, ◌<◌, ◌==◌, Bool, true, false, List, [], slice_set, Some, arith, refl, sym, ap, subst, ◌∙◌, eqb-true}
-use Rattle.std.proofs.lemmas.Bool.{eqb-false}
-use Rattle.fabric_script.specs.declared.ports.PortRef.{PortRef}
-use Rattle.maint_registers.specs.Devices.{Registers, is_switch}
-use Rattle.maint_registers.specs.Access.{written_at}
-use Rattle.maint_registers.proofs.AccessLaws.{select-written, entry-written}
-use Rattle.fabric_map.specs.Topology.{Topology, entered}
-use Rattle.fabric_map.specs.Routes.{AllRegisters}
-use Rattle.host_enumerate.specs.Accesses.{registers_with}
-use Rattle.host_enumerate.specs.Asking.{IsAskable, IsApart, IsWritable, Becomes}
-use Rattle.host_enumerate.specs.Setting.{with_entry}
+use Rattle.host_enumerate.proofs.Prelude.{rules, ◌≡◌, ◌≢◌, ℕ, ◌%◌, ◌<◌, ◌==◌, Bool, true, false, List, [], slice_set, Some, arith, refl, sym, ap, subst, ◌∙◌, eqb-true, eqb-false, PortRef, Registers, is_switch, written_at, select-written, entry-written, Topology, entered, AllRegisters, registers_with, IsAskable, IsApart, IsWritable, Becomes, with_entry}
 use Rattle.host_enumerate.proofs.Frames.{with_device-at, with_device-other}
 use Rattle.host_enumerate.proofs.Opening.{base_id_stays, became, stays, opened-apart}
 

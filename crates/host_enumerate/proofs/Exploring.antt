@@ -1,15 +1,6 @@
 -- The ports of a switch are tried one after another.
-use Rattle.std.proofs.Common.{◌≡◌, ℕ, ◌+◌, ◌⊎◌, inl, inr, List, [], ◌∷◌, Contains, sym, ap, subst, ◌∙◌}
-use Rattle.fabric_map.specs.declared.map.Device.{Device}
-use Rattle.fabric_map.specs.Topology.{Topology, entered}
-use Rattle.fabric_map.specs.Walked.{onward}
-use Rattle.fabric_map.specs.Routes.{AllRegisters}
-use Rattle.fabric_map.specs.Ways.{IsOpened}
-use Rattle.fabric_map.specs.Numbered.{paths_of}
+use Rattle.host_enumerate.proofs.Prelude.{◌≡◌, ℕ, ◌+◌, ◌⊎◌, inl, inr, List, [], ◌∷◌, Contains, sym, ap, subst, ◌∙◌, Device, Topology, entered, onward, AllRegisters, IsOpened, paths_of, Found, IsUnderway, IsFound}
 use Rattle.fabric_map.proofs.Walks.{last_port}
-use Rattle.host_enumerate.specs.declared.walk.Found.{Found}
-use Rattle.host_enumerate.specs.Underway.{IsUnderway}
-use Rattle.host_enumerate.specs.Founds.{IsFound}
 use Rattle.host_enumerate.proofs.Routing.{opened-front}
 use Rattle.host_enumerate.proofs.Stepping.{followed-ports, underway-entry, underway-closed}
 use Rattle.host_enumerate.proofs.Looking.{apart_from_host, still_found}

@@ -1,33 +1,8 @@
 -- What stands when all paths are tried: the fabric is numbered.
-use Rattle.std.proofs.Common.{◌≡◌, ◌≢◌, ℕ, ◌<◌, ◌≤◌, true, false, List, [], ◌∷◌, ◌++◌, length, Option, Some, None, IsSome, unwrap_or, Contains, arith, ◌⊎◌, inl, inr, subst, sym, refl, ap, ◌∙◌, lt-ltb, le-ltb, eq-eqb, option_map}
-use Rattle.std.specs.Option.{option_and_then}
-use Rattle.std.proofs.lemmas.Bool.{cases_eq, cases_lt}
-use Rattle.std.proofs.lemmas.Option.{same_Some}
-use Rattle.std.proofs.lemmas.List.Elements.{All-contains}
-use Rattle.fabric_script.specs.declared.ports.PortRef.{PortRef}
-use Rattle.fabric_script.specs.Ports.{port_at}
-use Rattle.maint_registers.specs.Devices.{is_switch}
-use Rattle.maint_registers.specs.Routes.{next_port}
-use Rattle.maint_registers.proofs.RouteLaws.{entry-next, default-next}
-use Rattle.fabric_map.specs.declared.map.Kind.TheVariants.{Switch}
-use Rattle.fabric_map.specs.declared.map.Device.{Device}
+use Rattle.host_enumerate.proofs.Prelude.{◌≡◌, ◌≢◌, ℕ, ◌<◌, ◌≤◌, true, false, List, [], ◌∷◌, ◌++◌, length, Option, Some, None, IsSome, unwrap_or, Contains, arith, ◌⊎◌, inl, inr, subst, sym, refl, ap, ◌∙◌, lt-ltb, le-ltb, eq-eqb, option_map, option_and_then, cases_eq, cases_lt, same_Some, All-contains, PortRef, port_at, is_switch, next_port, entry-next, default-next, Switch, Device, Topology, IsPortIn, behind_port, along, entered, node_at, after_all_paths, AllRegisters, PacketComes, Fits, IsForeign, device_has_id, is_given, paths_of, toward, port_toward, port_for, entries_of, AreDescribed, IsMarked, ChangesOnly, IsNumbered, along-append, port_of_entry, each_is_reached, behind-link, further_from_toward, path_listed, device_on, described-listed, described-switch, node_at-entered, has_id-endpoint, is_given-contains, found-by_id, entered-port, given_below, HasTable, HasTableOf, IsUnderway, IsLockFree}
 use Rattle.fabric_map.specs.declared.map.Entry.{Entry}
-use Rattle.fabric_map.specs.Topology.{Topology, IsPortIn, behind_port, along, entered, node_at}
-use Rattle.fabric_map.specs.Walked.{after_all_paths}
-use Rattle.fabric_map.specs.Routes.{AllRegisters, PacketComes}
-use Rattle.fabric_map.specs.Fitting.{Fits}
-use Rattle.fabric_map.specs.Locked.{IsForeign}
-use Rattle.fabric_map.specs.Numbered.{device_has_id, is_given, paths_of, toward, port_toward, port_for, entries_of, AreDescribed, IsMarked, ChangesOnly, IsNumbered}
-use Rattle.fabric_map.proofs.Leading.{along-append, port_of_entry, each_is_reached}
-use Rattle.fabric_map.proofs.Ways.{behind-link}
-use Rattle.fabric_map.proofs.Branches.{further_from_toward}
-use Rattle.fabric_map.proofs.Growing.{path_listed, device_on, described-listed, described-switch, node_at-entered}
-use Rattle.fabric_map.proofs.Given.{has_id-endpoint, is_given-contains, found-by_id}
 use Rattle.fabric_map.proofs.Routing.{SendsById, comes-from}
 use Rattle.fabric_map.proofs.Tabled.{entry_listed, given_device, one_tag}
-use Rattle.fabric_map.proofs.Few.{entered-port}
-use Rattle.host_enumerate.specs.Underway.{given_below, HasTable, HasTableOf, IsUnderway}
-use Rattle.host_enumerate.specs.Ends.{IsLockFree}
 use Rattle.host_enumerate.proofs.Meeting.{underway-outside, underway-inside, member-not_foreign}
 use Rattle.host_enumerate.proofs.Stepping.{followed-ports}
 use Rattle.host_enumerate.proofs.Keeping.{next-home}
@@ -181,8 +156,7 @@ module _ (topology : Topology) (before now : AllRegisters) (host_id next : ℕ)
             at ports entry fits listed kind enters
             ∙ ap (λ n. Some n) (port ∙ sym (ap (λ o. unwrap_or o entry)
             (ap (λ n. port_toward devices member.path n) same ∙ host_toward member.path))))
-        go (inr other) =
-            by_table other (port_toward devices member.path id) refl
+        go (inr other) = by_table other (port_toward devices member.path id) refl
 
   sends_by_id : (id : ℕ) → is_given devices id ≡ true → SendsById topology now devices id
   sends_by_id id given member ports entry node listed kind leads =

@@ -1,16 +1,6 @@
 -- What single accesses answer, and what they leave of the registers of all devices.
-use Rattle.std.proofs.Common.{◌≡◌, ◌≢◌, ℕ, ◌<◌, ◌==◌, Bool, true, false, eqb, Some, is_some, if◌then◌else◌, refl, sym, ap, subst, ◌∙◌, ne_eqb, eq-eqb}
-use Rattle.std.proofs.lemmas.Bool.{eqb-true}
-use Rattle.fabric_script.specs.Ports.{port_at}
-use mathlib.Core.Path.{fun_ext}
-use Rattle.maint_registers.specs.Devices.{Registers}
+use Rattle.host_enumerate.proofs.Prelude.{◌≡◌, ◌≢◌, ℕ, ◌<◌, ◌==◌, Bool, true, false, eqb, Some, is_some, if◌then◌else◌, refl, sym, ap, subst, ◌∙◌, ne_eqb, eq-eqb, eqb-true, port_at, fun_ext, Registers, value_at, status-read, Topology, device_ports, AllRegisters, Fits, registers_with}
 use Rattle.maint_registers.specs.Table.{status_offset}
-use Rattle.maint_registers.specs.Access.{value_at}
-use Rattle.maint_registers.proofs.AccessLaws.{status-read}
-use Rattle.fabric_map.specs.Topology.{Topology, device_ports}
-use Rattle.fabric_map.specs.Routes.{AllRegisters}
-use Rattle.fabric_map.specs.Fitting.{Fits}
-use Rattle.host_enumerate.specs.Accesses.{registers_with}
 
 -- the device itself
 pub with_device-at : (registers : AllRegisters) (node : ℕ) (device : Registers)

@@ -1,13 +1,5 @@
 -- An ID is given to an endpoint.
-use Rattle.std.proofs.Common.{◌≡◌, ◌≢◌, ℕ, ◌*◌, ◌/◌, ◌%◌, ◌-◌, ◌≤◌, ◌<◌, false, List, [], ◌∷◌, ◌++◌, length, take, drop, get_or, Some, arith, sym, ap, subst, ◌∙◌}
-use Rattle.fabric_script.specs.declared.ports.PortRef.{PortRef}
-use Rattle.maint_registers.specs.Devices.{is_switch}
-use Rattle.maint_registers.proofs.AccessLaws.{base_id-written}
-use Rattle.fabric_map.specs.Topology.{Topology, entered}
-use Rattle.fabric_map.specs.Walked.{onward}
-use Rattle.fabric_map.specs.Routes.{AllRegisters}
-use Rattle.host_enumerate.specs.Asking.{IsAskable, IsApart, IsWritable, PassesOnce, Becomes}
-use Rattle.host_enumerate.specs.Setting.{AreRouted, HasNewId}
+use Rattle.host_enumerate.proofs.Prelude.{◌≡◌, ◌≢◌, ℕ, ◌*◌, ◌/◌, ◌%◌, ◌-◌, ◌≤◌, ◌<◌, false, List, [], ◌∷◌, ◌++◌, length, take, drop, get_or, Some, arith, sym, ap, subst, ◌∙◌, PortRef, is_switch, base_id-written, Topology, entered, onward, AllRegisters, IsAskable, IsApart, IsWritable, PassesOnce, Becomes, AreRouted, HasNewId}
 use Rattle.host_enumerate.proofs.Entries.{Leaves, askable-written}
 use Rattle.host_enumerate.proofs.Routing.{split}
 

@@ -1,16 +1,5 @@
 -- A device is taken, or found to be held.
-use Rattle.std.proofs.Common.{rules, ◌≡◌, ℕ, ◌%◌, ◌<◌, List, Some, IsSome, arith, refl, sym, ap, subst, ◌∙◌}
-use Rattle.std.proofs.lemmas.Option.{same_Some}
-use Rattle.fabric_script.specs.declared.ports.PortRef.{PortRef}
-use Rattle.maint_registers.specs.Devices.{Registers}
-use Rattle.maint_registers.specs.Access.{value_at, written_at, locked}
-use Rattle.maint_registers.proofs.AccessLaws.{lock-read, tag-read, lock-written}
-use Rattle.fabric_map.specs.Topology.{Topology, IsTopology, entered}
-use Rattle.fabric_map.specs.Routes.{AllRegisters}
-use Rattle.fabric_map.specs.Fitting.{Fits}
-use Rattle.fabric_map.proofs.Leading.{some_from_same}
-use Rattle.fabric_map.proofs.Few.{entered-inside}
-use Rattle.host_enumerate.specs.Asking.{IsAskable, IsApart, IsWritable, AreSame}
+use Rattle.host_enumerate.proofs.Prelude.{rules, ◌≡◌, ℕ, ◌%◌, ◌<◌, List, Some, IsSome, arith, refl, sym, ap, subst, ◌∙◌, same_Some, PortRef, Registers, value_at, written_at, locked, lock-read, tag-read, lock-written, Topology, IsTopology, entered, AllRegisters, Fits, some_from_same, entered-inside, IsAskable, IsApart, IsWritable, AreSame}
 use Rattle.host_enumerate.proofs.Opening.{opened-same}
 
 -- a read leaves what can be asked

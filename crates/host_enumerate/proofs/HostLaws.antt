@@ -1,12 +1,6 @@
 -- A name names one host of a script, or none for one reason.
-use Rattle.std.proofs.Common.{◌≡◌, ◌≢◌, ℕ, ◌<◌, ◌≤◌, ◌⊎◌, inl, inr, true, false, List, Some, IsSome, option_map, Result, Ok, Err, refl, sym, ap, ◌∙◌, subst, arith}
-use Rattle.std.proofs.lemmas.Bool.{cases_lt}
-use Rattle.std.proofs.lemmas.Option.{slice_get-get_or, slice_get_past}
-use Rattle.maint_registers.specs.Devices.{Registers, is_switch, new_endpoint}
-use Rattle.fabric_script.specs.declared.ports.PortRef.{PortRef}
+use Rattle.host_enumerate.proofs.Prelude.{◌≡◌, ◌≢◌, ℕ, ◌<◌, ◌≤◌, ◌⊎◌, inl, inr, true, false, List, Some, IsSome, option_map, Result, Ok, Err, refl, sym, ap, ◌∙◌, subst, arith, cases_lt, slice_get-get_or, slice_get_past, Registers, is_switch, new_endpoint, PortRef, registers_of, IsHost, JudgesHost}
 use Rattle.fabric_script.proofs.Exclusion.{named_is_there}
-use Rattle.fabric_map.specs.Plain.{registers_of}
-use Rattle.host_enumerate.specs.Devised.{IsHost, JudgesHost}
 use Rattle.host_enumerate.specs.Hosts.{FindsHost, IsFirstNamed}
 use Rattle.host_enumerate.specs.declared.devising.NoHost.{NoHost}
 use Rattle.host_enumerate.specs.declared.devising.NoHost.TheVariants.{Unknown, WrongKind, NotLinked}

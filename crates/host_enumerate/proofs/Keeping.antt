@@ -1,23 +1,5 @@
 -- What is kept if the entry of 255 is set, and where a switch that was met sends packets.
-use Rattle.std.proofs.Common.{rules, ◌≡◌, ◌≢◌, ℕ, ◌<◌, ◌≤◌, true, List, [], length, Some, Contains, arith, ◌⊎◌, inl, inr, subst, sym, ap, ◌∙◌}
-use Rattle.std.proofs.lemmas.Bool.{cases_eq}
-use Rattle.std.proofs.lemmas.Option.{same_Some}
-use Rattle.fabric_script.specs.declared.ports.PortRef.{PortRef}
-use Rattle.maint_registers.specs.Devices.{Registers, is_switch}
-use Rattle.maint_registers.specs.Routes.{entry_of, next_port}
-use Rattle.maint_registers.proofs.RouteLaws.{entry-next, entry-set_same, entry-set_other}
-use Rattle.fabric_map.specs.declared.map.Kind.{Kind}
-use Rattle.fabric_map.specs.declared.map.Kind.TheVariants.{Endpoint, Switch}
-use Rattle.fabric_map.specs.declared.map.Device.{Device}
-use Rattle.fabric_map.specs.Topology.{Topology, entered, node_at}
-use Rattle.fabric_map.specs.Routes.{AllRegisters}
-use Rattle.fabric_map.specs.Fitting.{Fits}
-use Rattle.fabric_map.specs.Numbered.{HasBaseId}
-use Rattle.fabric_map.proofs.Growing.{described-listed, described-switch, node_at-entered}
-use Rattle.fabric_map.proofs.Few.{entered-port}
-use Rattle.host_enumerate.specs.Asking.{AreSame, Becomes}
-use Rattle.host_enumerate.specs.Setting.{with_entry}
-use Rattle.host_enumerate.specs.Underway.{HasTableOf, IsHeld, IsUnmet, AreOwnUntagged, IsUnderway}
+use Rattle.host_enumerate.proofs.Prelude.{rules, ◌≡◌, ◌≢◌, ℕ, ◌<◌, ◌≤◌, true, List, [], length, Some, Contains, arith, ◌⊎◌, inl, inr, subst, sym, ap, ◌∙◌, cases_eq, same_Some, PortRef, Registers, is_switch, entry_of, next_port, entry-next, entry-set_same, entry-set_other, Kind, Endpoint, Switch, Device, Topology, entered, node_at, AllRegisters, Fits, HasBaseId, described-listed, described-switch, node_at-entered, entered-port, AreSame, Becomes, with_entry, HasTableOf, IsHeld, IsUnmet, AreOwnUntagged, IsUnderway}
 use Rattle.host_enumerate.proofs.Frames.{with_device-at, with_device-other}
 
 -- the next ports of a switch

@@ -1,27 +1,5 @@
 -- A device that is taken in.
-use Rattle.std.proofs.Common.{◌≡◌, ◌≢◌, ℕ, ◌+◌, ◌<◌, ◌≤◌, false, List, [], ◌∷◌, ◌++◌, length, Some, None, unwrap_or, Contains, arith, ◌⊎◌, inl, inr, subst, sym, refl, ap, ◌∙◌, length-append, ne_eqb, eq-eqb}
-use Rattle.std.proofs.lemmas.Bool.{cases_eq}
-use Rattle.std.proofs.lemmas.List.Elements.{Contains-push, Contains-push_cases, Contains-append_left}
-use Rattle.std.proofs.lemmas.Option.{same_Some}
-use Rattle.fabric_script.specs.declared.ports.PortRef.{PortRef}
-use Rattle.maint_registers.specs.Devices.{Registers}
-use Rattle.maint_registers.proofs.RouteLaws.{entry-set_same, entry-set_other}
-use Rattle.maint_registers.specs.Routes.{entry_of}
-use Rattle.fabric_map.specs.declared.map.Kind.{Kind}
-use Rattle.fabric_map.specs.declared.map.Kind.TheVariants.{Endpoint, Switch}
-use Rattle.fabric_map.specs.declared.map.Device.{Device}
-use Rattle.fabric_map.specs.Topology.{Topology, entered, node_at}
-use Rattle.fabric_map.specs.Walked.{onward, Walked}
-use Rattle.fabric_map.specs.Routes.{AllRegisters}
-use Rattle.fabric_map.specs.Locked.{IsNext}
-use Rattle.fabric_map.specs.Numbered.{is_given, paths_of, toward, port_toward, IsDescribed, HasBaseId}
-use Rattle.fabric_map.proofs.Leading.{some_from_same}
-use Rattle.fabric_map.proofs.Steps.{takes_in}
-use Rattle.fabric_map.proofs.Branches.{port_toward-free, port_toward-other, port_toward-new}
-use Rattle.fabric_map.proofs.Growing.{device_on, paths_of-push, described-push, node_at-entered}
-use Rattle.fabric_map.proofs.Given.{has_id-endpoint, has_id-switch}
-use Rattle.host_enumerate.specs.Setting.{with_entry}
-use Rattle.host_enumerate.specs.Underway.{HasTable, HasTableOf, IsHeld, IdsAreCounted, IsUnmet, IsUnderway}
+use Rattle.host_enumerate.proofs.Prelude.{◌≡◌, ◌≢◌, ℕ, ◌+◌, ◌<◌, ◌≤◌, false, List, [], ◌∷◌, ◌++◌, length, Some, None, unwrap_or, Contains, arith, ◌⊎◌, inl, inr, subst, sym, refl, ap, ◌∙◌, length-append, ne_eqb, eq-eqb, cases_eq, Contains-push, Contains-push_cases, Contains-append_left, same_Some, PortRef, Registers, entry-set_same, entry-set_other, entry_of, Kind, Endpoint, Switch, Device, Topology, entered, node_at, onward, Walked, AllRegisters, IsNext, is_given, paths_of, toward, port_toward, IsDescribed, HasBaseId, some_from_same, takes_in, port_toward-free, port_toward-other, port_toward-new, device_on, paths_of-push, described-push, node_at-entered, has_id-endpoint, has_id-switch, with_entry, HasTable, HasTableOf, IsHeld, IdsAreCounted, IsUnmet, IsUnderway}
 
 -- a switch keeps its table if the list gets longer, if the ports that lead to IDs stay
 longer-table : (host_id : ℕ) (devices more : List Device) (path : List ℕ) (entry : ℕ)

@@ -1,3 +1,4 @@
+mod Prelude
 pub mod Accessed
 pub mod AccessKeeps
 pub mod Frames

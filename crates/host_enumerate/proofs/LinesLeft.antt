@@ -1,22 +1,8 @@
 -- What is left of the lines of a script while they are taken in one by one.
-use Rattle.std.proofs.Common.{◌≡◌, ℕ, suc, ◌+◌, ◌<◌, ◌≤◌, true, false, not, List, [], ◌∷◌, length, get_or, drop, Some, arith, refl, sym, ap, subst, ◌∙◌}
+use Rattle.host_enumerate.proofs.Prelude.{◌≡◌, ℕ, suc, ◌+◌, ◌<◌, ◌≤◌, true, false, not, List, [], ◌∷◌, length, get_or, drop, Some, arith, refl, sym, ap, subst, ◌∙◌, not-false, length-map, slice_get-get_or, Registers, is_switch, new_endpoint, PortRef, Line, Numbered, WrongKind, new_name, Known, nothing, known_after, links_after, node_is_switch, is_known_switch, MayBe, IsFree, PassesFrom, ScriptPasses, registers_of, MayDevise, devices_after, devices_after_all, links_after_all, devices_of, links_of}
 use Rattle.std.proofs.Math.Seq.{drop-cons}
-use Rattle.std.proofs.lemmas.Bool.{not-false}
-use Rattle.std.proofs.lemmas.List.{length-map}
 use Rattle.std.proofs.Math.ListN.{drop_of_length-le}
-use Rattle.std.proofs.lemmas.Option.{slice_get-get_or}
-use Rattle.maint_registers.specs.Devices.{Registers, is_switch, new_endpoint}
-use Rattle.fabric_script.specs.declared.ports.PortRef.{PortRef}
-use Rattle.fabric_script.specs.declared.lines.Line.{Line}
 use Rattle.fabric_script.specs.declared.lines.Line.TheVariants.{Switch, Link, Route, Default, Lock, Large}
-use Rattle.fabric_script.specs.declared.lines.Numbered.{Numbered}
-use Rattle.fabric_script.specs.declared.reasons.Reason.TheVariants.{WrongKind}
-use Rattle.fabric_script.specs.Lines.{new_name}
-use Rattle.fabric_script.specs.Known.{Known, nothing, known_after, links_after, node_is_switch, is_known_switch}
-use Rattle.fabric_script.specs.Reading.{MayBe, IsFree}
-use Rattle.fabric_script.specs.Scripts.{PassesFrom, ScriptPasses}
-use Rattle.fabric_map.specs.Plain.{registers_of}
-use Rattle.host_enumerate.specs.Devised.{MayDevise, devices_after, devices_after_all, links_after_all, devices_of, links_of}
 use Rattle.host_enumerate.proofs.NewDevices.{kind_known}
 use Rattle.host_enumerate.proofs.Devised.{Stage, stage_after, first_stage}
 
@@ -38,8 +24,7 @@ module _ (known : Known) (new : List ℕ) (devices : List Registers)
 
   switch_there : (n : ℕ) → n < length known.names → not (is_known_switch known.nodes n) ≡ false
       → is_switch (registers_of devices n) ≡ true
-  switch_there n inside own =
-      kind_there n inside ∙ not-false (is_known_switch known.nodes n) own
+  switch_there n inside own = kind_there n inside ∙ not-false (is_known_switch known.nodes n) own
 
   may_devise : (line : Line) → MayBe known new line → IsFree known line → MayDevise devices line
   may_devise (Switch name ports) may free = may.fit.1.0

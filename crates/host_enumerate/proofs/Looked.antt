@@ -1,25 +1,5 @@
 -- What the call that tries a port of a switch knows.
-use Rattle.std.proofs.Common.{◌≡◌, ◌≢◌, ℕ, ◌+◌, ◌<◌, ◌≤◌, List, [], ◌∷◌, ◌++◌, length, Contains, Option, Some, None, arith, sym, ap, subst, ◌∙◌, length-append}
-use Rattle.std.proofs.lemmas.List.Elements.{Contains-push}
-use Rattle.std.proofs.lemmas.Option.{same_Some}
-use Rattle.fabric_script.specs.declared.ports.PortRef.{PortRef}
-use Rattle.fabric_map.specs.declared.map.Kind.{Kind}
-use Rattle.fabric_map.specs.declared.map.Kind.TheVariants.{Endpoint, Switch}
-use Rattle.fabric_map.specs.declared.map.Device.{Device}
-use Rattle.fabric_map.specs.Topology.{Topology, entered}
-use Rattle.fabric_map.specs.Walked.{onward}
-use Rattle.fabric_map.specs.Routes.{AllRegisters}
-use Rattle.fabric_map.specs.Ways.{IsOpened}
-use Rattle.fabric_map.specs.Numbered.{paths_of, IsDescribed}
-use Rattle.fabric_map.proofs.Order.{onward-not_empty}
-use Rattle.fabric_map.proofs.Growing.{path_listed, described-listed, described-switch, described-endpoint}
-use Rattle.host_enumerate.specs.declared.walk.Found.{Found}
-use Rattle.host_enumerate.specs.declared.maint.Maint.{Ghosts}
-use Rattle.host_enumerate.specs.declared.taking.Numbering.{Numbering}
-use Rattle.host_enumerate.specs.Underway.{met_as}
-use Rattle.host_enumerate.specs.Carrying.{IsNumbering}
-use Rattle.host_enumerate.specs.TakingIn.{IsTried}
-use Rattle.host_enumerate.specs.Founds.{HasFound}
+use Rattle.host_enumerate.proofs.Prelude.{◌≡◌, ◌≢◌, ℕ, ◌+◌, ◌<◌, ◌≤◌, List, [], ◌∷◌, ◌++◌, length, Contains, Option, Some, None, arith, sym, ap, subst, ◌∙◌, length-append, Contains-push, same_Some, PortRef, Kind, Endpoint, Switch, Device, Topology, entered, onward, AllRegisters, IsOpened, paths_of, IsDescribed, onward-not_empty, path_listed, described-listed, described-switch, described-endpoint, Found, Ghosts, Numbering, met_as, IsNumbering, IsTried, HasFound}
 use Rattle.host_enumerate.proofs.Stepping.{followed-none, underway-past, underway-closed}
 use Rattle.host_enumerate.proofs.Tried.{PathTried}
 use Rattle.host_enumerate.proofs.Routing.{opened-front}

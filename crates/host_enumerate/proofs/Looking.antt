@@ -1,32 +1,5 @@
 -- What is behind a port of a switch that was met.
-use Rattle.std.proofs.Common.{◌≡◌, ◌≢◌, ℕ, ◌+◌, ◌*◌, ◌<◌, inr, true, List, [], length, Contains, Option, Some, None, IsSome, is_some, unwrap_or, arith, refl, sym, ap, subst, ◌∙◌, if◌then◌else◌}
-use Rattle.std.proofs.lemmas.Option.{same_Some}
-use Rattle.fabric_script.specs.declared.ports.PortRef.{PortRef}
-use Rattle.fabric_script.specs.Ports.{port_at}
-use Rattle.maint_registers.specs.Devices.{is_switch}
-use Rattle.maint_registers.specs.Access.{value_at}
-use Rattle.maint_registers.specs.Routes.{next_port}
-use Rattle.fabric_map.specs.declared.map.Kind.{Kind}
-use Rattle.fabric_map.specs.declared.map.Kind.TheVariants.{Endpoint, Switch}
-use Rattle.fabric_map.specs.declared.map.Device.{Device}
-use Rattle.fabric_map.specs.Topology.{Topology, entered, node_at}
-use Rattle.fabric_map.specs.Walked.{onward}
-use Rattle.fabric_map.specs.Routes.{AllRegisters}
-use Rattle.fabric_map.specs.Fitting.{Fits}
-use Rattle.fabric_map.specs.Ways.{IsOpened}
-use Rattle.fabric_map.specs.Numbered.{paths_of, IsKindAt, IsDescribed}
-use Rattle.fabric_map.proofs.Leading.{some_from_same}
-use Rattle.fabric_map.proofs.Few.{entered-inside}
-use Rattle.fabric_map.proofs.Growing.{device_on, described-listed, node_at-entered}
-use Rattle.fabric_map.proofs.Steps.{empty-before}
-use Rattle.host_enumerate.specs.declared.walk.Found.{Found}
-use Rattle.host_enumerate.specs.declared.maint.Maint.{Ghosts}
-use Rattle.host_enumerate.specs.declared.taking.Numbering.{Numbering}
-use Rattle.host_enumerate.specs.Asking.{IsAskable, IsApart, AreSame, Becomes}
-use Rattle.host_enumerate.specs.Setting.{with_entry}
-use Rattle.host_enumerate.specs.Underway.{IsUnderway}
-use Rattle.host_enumerate.specs.Carrying.{IsNumbering}
-use Rattle.host_enumerate.specs.Founds.{IsFound, HasFound}
+use Rattle.host_enumerate.proofs.Prelude.{◌≡◌, ◌≢◌, ℕ, ◌+◌, ◌*◌, ◌<◌, inr, true, List, [], length, Contains, Option, Some, None, IsSome, is_some, unwrap_or, arith, refl, sym, ap, subst, ◌∙◌, if◌then◌else◌, same_Some, PortRef, port_at, is_switch, value_at, next_port, Kind, Endpoint, Switch, Device, Topology, entered, node_at, onward, AllRegisters, Fits, IsOpened, paths_of, IsKindAt, IsDescribed, some_from_same, entered-inside, device_on, described-listed, node_at-entered, empty-before, Found, Ghosts, Numbering, IsAskable, IsApart, AreSame, Becomes, with_entry, IsUnderway, IsNumbering, IsFound, HasFound}
 use Rattle.host_enumerate.proofs.Tried.{still_underway, still_opened}
 use Rattle.host_enumerate.proofs.Frames.{status-shows}
 use Rattle.host_enumerate.proofs.Opening.{opened-same, opened-apart, became}
@@ -154,8 +127,7 @@ module _ {topology : Topology} {now : AllRegisters} {host_id next : ℕ} {device
       → value_at (now found.at.node) (344 + 32 * number) found.at.port ≡ Some status
       → status ≡ 2
       → (end : PortRef) × (topology.peer (port_at found.at.node port) ≡ Some end)
-  linked number status fits is below told two =
-      go (topology.peer (port_at found.at.node port)) refl
+  linked number status fits is below told two = go (topology.peer (port_at found.at.node port)) refl
     where
       differ : (n : ℕ) → n ≡ 1 → n ≡ 2 → ⊥
       differ n one two = omega (arith, one, two)

@@ -1,19 +1,5 @@
 -- What lock and tag of a device tell: whether it was met.
-use Rattle.std.proofs.Common.{◌≡◌, ◌≢◌, ℕ, ◌<◌, List, [], ◌∷◌, Option, Some, None, Contains, arith, ◌⊎◌, inl, inr, subst, sym, refl, ap, ◌∙◌}
-use Rattle.std.proofs.lemmas.Bool.{cases_eq}
-use Rattle.std.proofs.lemmas.List.Elements.{All-contains}
-use Rattle.fabric_script.specs.declared.ports.PortRef.{PortRef}
-use Rattle.fabric_map.specs.declared.map.Device.{Device}
-use Rattle.fabric_map.specs.Topology.{Topology, entered, node_at, IsReached}
-use Rattle.fabric_map.specs.Walked.{Before, IsMet}
-use Rattle.fabric_map.specs.Routes.{AllRegisters}
-use Rattle.fabric_map.specs.Locked.{IsForeign, IsNext}
-use Rattle.fabric_map.specs.Numbered.{paths_of, ChangesOnly}
-use Rattle.fabric_map.proofs.Lists.{Contains-first, Contains-rest, Contains-cases}
-use Rattle.fabric_map.proofs.Few.{entered-inside}
-use Rattle.fabric_map.proofs.Growing.{path_listed, device_on, tag-some, node_at-entered}
-use Rattle.host_enumerate.specs.Underway.{IsUnmet, IsUnderway}
-use Rattle.host_enumerate.specs.Ends.{EndsAtLock}
+use Rattle.host_enumerate.proofs.Prelude.{◌≡◌, ◌≢◌, ℕ, ◌<◌, List, [], ◌∷◌, Option, Some, None, Contains, arith, ◌⊎◌, inl, inr, subst, sym, refl, ap, ◌∙◌, cases_eq, All-contains, PortRef, Device, Topology, entered, node_at, IsReached, Before, IsMet, AllRegisters, IsForeign, IsNext, paths_of, ChangesOnly, Contains-first, Contains-rest, Contains-cases, entered-inside, path_listed, device_on, tag-some, node_at-entered, IsUnmet, IsUnderway, EndsAtLock}
 
 -- a device of the list is this one
 abbrev pub IsMember : Topology → List Device → ℕ → Type 0
@@ -29,8 +15,7 @@ member_or_unmet topology (first ∷ devices) node =
   where
     unlike : (o : Option ℕ) → node_at topology first.path ≡ o → o ≢ Some node
         → IsUnmet topology devices node → IsUnmet topology (first ∷ devices) node
-    unlike o is other unmet device listed same =
-        at (Contains-cases first devices device listed)
+    unlike o is other unmet device listed same = at (Contains-cases first devices device listed)
       where
         at : (first ≡ device) ⊎ Contains devices device → ⊥
         at (inl equal) =
@@ -40,8 +25,7 @@ member_or_unmet topology (first ∷ devices) node =
     go : (o : Option ℕ) → node_at topology first.path ≡ o
         → IsMember topology devices node ⊎ IsUnmet topology devices node
         → IsMember topology (first ∷ devices) node ⊎ IsUnmet topology (first ∷ devices) node
-    go o is (inl member) =
-        inl (member.0, Contains-rest first devices member.0 member.1, member.2)
+    go o is (inl member) = inl (member.0, Contains-rest first devices member.0 member.1, member.2)
     go None is (inr unmet) = inr (unlike None is (λ same. absurd (cc)) unmet)
     go (Some n) is (inr unmet) = at (cases_eq n node)
       where
@@ -59,8 +43,7 @@ module _ (topology : Topology) (before now : AllRegisters) (host_id next : ℕ)
 
   -- a device with another lock was not met
   pub unmet-lock : (node : ℕ) → (now node).lock ≢ host_id → IsUnmet topology devices node
-  unmet-lock node other device listed same =
-      other (member-lock node (device, listed, same))
+  unmet-lock node other device listed same = other (member-lock node (device, listed, same))
 
   -- one without a tag was not met
   pub unmet-untagged : (node : ℕ) → (now node).tag ≡ 0 → IsUnmet topology devices node
@@ -101,8 +84,7 @@ module _ (topology : Topology) (before now : AllRegisters) (host_id next : ℕ)
   -- a device that was met was not held by another host
   pub member-not_foreign : (node : ℕ) → IsMember topology devices node
       → ¬ IsForeign host_id (before node).lock
-  member-not_foreign node member =
-      (underway.held member.0 node member.1 member.2).not_foreign
+  member-not_foreign node member = (underway.held member.0 node member.1 member.2).not_foreign
 
   -- only registers of devices that are reached changed
   pub underway-outside : (node : ℕ) → ¬ IsReached topology node → now node ≡ before node

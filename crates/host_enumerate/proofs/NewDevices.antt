@@ -1,21 +1,9 @@
 -- Devices of a fabric that is set up: what they are, and what stays of it when one of them is
 -- changed.
-use Rattle.std.proofs.Common.{rules, ◌≡◌, ◌≢◌, ℕ, zero, suc, ◌/◌, ◌%◌, ◌^◌, ◌<◌, ◌≤◌, ◌||◌, Bool, true, false, List, [], ◌∷◌, ◌++◌, map, length, length-set, slice_get, Option, Some, None, option_map, if◌then◌else◌, arith, ◌⊎◌, inl, inr, refl, sym, ap, subst, ◌∙◌}
+use Rattle.host_enumerate.proofs.Prelude.{rules, ◌≡◌, ◌≢◌, ℕ, zero, suc, ◌/◌, ◌%◌, ◌^◌, ◌<◌, ◌≤◌, ◌||◌, Bool, true, false, List, [], ◌∷◌, ◌++◌, map, length, length-set, slice_get, Option, Some, None, option_map, if◌then◌else◌, arith, ◌⊎◌, inl, inr, refl, sym, ap, subst, ◌∙◌, cases_eq, cases_Bool, same_Some, slice_get-map, PortRef, Node, same_port, node_is_switch, is_known_switch, port_at, port_is, same_port-refl, Registers, IsDevice, is_switch, new_endpoint, new_switch, with_link, with_device, linked_at, routed, defaulted, held_by, large_set, device-changed, device-kept, or_false, with_linked_end}
 use Rattle.std.proofs.Math.Nat.{zero-div}
-use Rattle.std.proofs.lemmas.Bool.{cases_eq, cases_Bool}
-use Rattle.std.proofs.lemmas.Option.{same_Some, slice_get-map}
-use Rattle.fabric_script.specs.declared.ports.PortRef.{PortRef}
-use Rattle.fabric_script.specs.declared.known.Node.{Node}
-use Rattle.fabric_script.specs.Known.{same_port, node_is_switch, is_known_switch}
-use Rattle.fabric_script.specs.Ports.{port_at}
-use Rattle.fabric_script.proofs.PeerLaws.{port_is, same_port-refl}
-use Rattle.maint_registers.specs.Devices.{Registers, IsDevice, is_switch, new_endpoint, new_switch, with_link}
-use Rattle.maint_registers.specs.Changes.{with_device, linked_at, routed, defaulted, held_by, large_set}
-use Rattle.maint_registers.proofs.ChangeLaws.{device-changed, device-kept}
 use Rattle.maint_registers.proofs.LinkLaws.{bit_set, bit_others}
 use Rattle.maint_registers.proofs.WithinLaws.{no_routes_long}
-use Rattle.fabric_map.proofs.Given.{or_false}
-use Rattle.host_enumerate.specs.Devised.{with_linked_end}
 
 -- ---- one device
 
@@ -87,8 +75,7 @@ module _ (linked : PortRef → Bool) (node : ℕ) (held : Registers) (is : IsNew
   defaulted_is port = search (rules, stays_device held held.linked held.lock port is.device)
 
   pub held_by_is : (id : ℕ) → id < 65536 → IsNew linked node (held_by id held)
-  held_by_is id below =
-      search (rules, stays_device held held.linked id held.default_port is.device)
+  held_by_is id below = search (rules, stays_device held held.linked id held.default_port is.device)
 
 -- an endpoint has the ID
 large_of : (held : Registers) (id : ℕ) → is_switch held ≡ false → is_switch held ≡ true → id ≡ 0

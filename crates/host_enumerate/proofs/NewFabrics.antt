@@ -1,22 +1,7 @@
 -- What set-up lines of a script that passes make is a fabric that a host can number.
 use Rattle.std.proofs.Common.{◌≡◌, ℕ, zero, suc, ◌<◌, ◌≤◌, Bool, true, false, List, [], ◌∷◌, map, length, slice_get, Option, Some, None, IsSome, option_map, option_and_then, unwrap_or, if◌then◌else◌, arith, ◌⊎◌, inl, inr, refl, sym, ap, subst, ◌∙◌}
-use Rattle.std.proofs.lemmas.Bool.{cases_lt, cases_Bool}
-use Rattle.std.proofs.lemmas.List.{length-map}
-use Rattle.std.proofs.lemmas.Option.{same_Some, slice_get-map, slice_get-get_or, slice_get_past, slice_get_within}
-use Rattle.maint_registers.specs.Devices.{Registers, IsDevice, is_switch, new_endpoint}
-use Rattle.fabric_script.specs.declared.ports.PortRef.{PortRef}
-use Rattle.fabric_script.specs.declared.known.Node.{Node}
-use Rattle.fabric_script.specs.declared.lines.Numbered.{Numbered}
-use Rattle.fabric_script.specs.Known.{Known, nothing, node_ports, ports_of, node_is_switch, is_linked}
-use Rattle.fabric_script.specs.Peers.{peer_in}
-use Rattle.fabric_script.specs.Scripts.{ScriptPasses}
-use Rattle.fabric_script.specs.Ports.{port_at}
-use Rattle.fabric_script.proofs.PeerLaws.{peer-linked}
-use Rattle.fabric_map.specs.Topology.{Topology, IsTopology, IsPortIn, device_ports}
-use Rattle.fabric_map.specs.Fitting.{Fits}
-use Rattle.fabric_map.specs.Plain.{ports_of_switch, topology_of, registers_of}
+use Rattle.host_enumerate.proofs.Prelude.{cases_lt, cases_Bool, length-map, same_Some, slice_get-map, slice_get-get_or, slice_get_past, slice_get_within, Registers, IsDevice, is_switch, new_endpoint, PortRef, Node, Numbered, Known, nothing, node_ports, ports_of, node_is_switch, is_linked, peer_in, ScriptPasses, port_at, peer-linked, Topology, IsTopology, IsPortIn, device_ports, Fits, ports_of_switch, topology_of, registers_of, IsHost, devices_of, links_of}
 use Rattle.host_enumerate.specs.Checking.{IsNewFabric}
-use Rattle.host_enumerate.specs.Devised.{IsHost, devices_of, links_of}
 use Rattle.host_enumerate.proofs.NewDevices.{IsNew}
 use Rattle.host_enumerate.proofs.Devised.{IsEnd, count_ports, Stage, stage_after_all, first_stage}
 

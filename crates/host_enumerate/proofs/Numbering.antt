@@ -1,17 +1,5 @@
 -- What the whole call knows.
-use Rattle.std.proofs.Common.{◌≡◌, ℕ, ◌<◌, ◌/◌, List, [], Some, IsSome, sym, ap, subst, ◌∙◌}
-use Rattle.fabric_script.specs.declared.ports.PortRef.{PortRef}
-use Rattle.fabric_script.specs.Ports.{port_at}
-use Rattle.maint_registers.specs.Access.{value_at}
-use Rattle.fabric_map.specs.declared.map.Device.{Device}
-use Rattle.fabric_map.specs.Topology.{Topology, IsTopology, entered}
-use Rattle.fabric_map.specs.Walked.{after_all_paths}
-use Rattle.fabric_map.specs.Routes.{AllRegisters}
-use Rattle.fabric_map.specs.Fitting.{Fits}
-use Rattle.fabric_map.specs.Numbered.{entries_of, IsNumbered}
-use Rattle.host_enumerate.specs.Asking.{IsAskable, AreSame}
-use Rattle.host_enumerate.specs.Underway.{AreUntagged, IsUnderway}
-use Rattle.host_enumerate.specs.Ends.{IsLockFree}
+use Rattle.host_enumerate.proofs.Prelude.{◌≡◌, ℕ, ◌<◌, ◌/◌, List, [], Some, IsSome, sym, ap, subst, ◌∙◌, PortRef, port_at, value_at, Device, Topology, IsTopology, entered, after_all_paths, AllRegisters, Fits, entries_of, IsNumbered, IsAskable, AreSame, AreUntagged, IsUnderway, IsLockFree}
 use Rattle.host_enumerate.proofs.Starting.{begun, own_askable, own_answers, own_id}
 use Rattle.host_enumerate.proofs.Finishing.{underway-numbered, underway-free}
 

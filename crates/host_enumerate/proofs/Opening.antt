@@ -1,19 +1,5 @@
 -- An access along a path that is open is answered, and leaves open what it does not touch.
-use Rattle.std.proofs.Common.{◌⊎◌, inl, inr, ◌≡◌, ◌≢◌, ℕ, ◌-◌, ◌==◌, Bool, true, false, List, [], ◌∷◌, ◌++◌, length, Some, arith, refl, sym, ap, subst, ◌∙◌, if◌then◌else◌, eqb-true}
-use Rattle.std.proofs.lemmas.Bool.{cases_eq}
-use Rattle.std.proofs.lemmas.Option.{same_Some}
-use Rattle.fabric_script.specs.declared.ports.PortRef.{PortRef}
-use Rattle.fabric_script.specs.Ports.{port_at}
-use Rattle.maint_registers.specs.Devices.{Registers}
-use Rattle.maint_registers.specs.Routes.{next_port}
-use Rattle.fabric_map.specs.Topology.{Topology, IsTopology, entered}
-use Rattle.fabric_map.specs.Routes.{AllRegisters, walk}
-use Rattle.fabric_map.specs.Ways.{IsOpened}
-use Rattle.fabric_map.proofs.Ways.{request_ends, answer_returns}
-use Rattle.host_enumerate.specs.declared.maint.Access.{Access}
-use Rattle.host_enumerate.specs.declared.maint.Access.TheVariants.{Read, Write}
-use Rattle.host_enumerate.specs.Accesses.{after_access, answered, IsAnswered}
-use Rattle.host_enumerate.specs.Asking.{IsAskable, IsOpenAfter, IsApart, IsWritable, AreSame, Becomes}
+use Rattle.host_enumerate.proofs.Prelude.{◌⊎◌, inl, inr, ◌≡◌, ◌≢◌, ℕ, ◌-◌, ◌==◌, Bool, true, false, List, [], ◌∷◌, ◌++◌, length, Some, arith, refl, sym, ap, subst, ◌∙◌, if◌then◌else◌, eqb-true, cases_eq, same_Some, PortRef, port_at, Registers, next_port, Topology, IsTopology, entered, AllRegisters, walk, IsOpened, request_ends, answer_returns, Access, Read, Write, after_access, answered, IsAnswered, IsAskable, IsOpenAfter, IsApart, IsWritable, AreSame, Becomes}
 use Rattle.host_enumerate.proofs.Frames.{with_device-at, with_device-other}
 
 pub became : (old new : AllRegisters) (node : ℕ) (held : Registers) → Becomes old new node held
@@ -96,8 +82,7 @@ pub answerable : {topology : Topology} {registers : AllRegisters} {host_id : ℕ
     → IsAskable topology registers host_id path at
     → IsOpenAfter topology registers host_id path at access → length path ≢ 0
     → IsAnswered topology registers 255 (length path - 1) access at
-answerable [] access proper askable open_after some =
-    absurd (some refl)
+answerable [] access proper askable open_after some = absurd (some refl)
 answerable {topology} {registers} {host_id} (first ∷ rest) {at} access proper askable open_after
     some =
     record {

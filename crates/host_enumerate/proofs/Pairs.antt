@@ -1,21 +1,9 @@
 -- A host and an endpoint with a link between them.
-use Rattle.std.proofs.Common.{◌≡◌, ℕ, zero, suc, ◌/◌, ◌%◌, ◌^◌, ◌<◌, ◌≤◌, is_some, Bool, true, false, Some, None, ◌⊎◌, inl, inr, arith, refl, sym, ap, subst, ◌∙◌, if◌then◌else◌}
-use Rattle.std.proofs.lemmas.Option.{same_Some}
-use Rattle.std.proofs.lemmas.List.{length-replicate}
-use Rattle.fabric_script.specs.declared.ports.PortRef.{PortRef}
-use Rattle.fabric_script.specs.Known.{same_port}
-use Rattle.fabric_script.proofs.PeerLaws.{port_is}
-use Rattle.maint_registers.specs.Devices.{IsDevice, new_endpoint, no_routes, is_switch}
-use Rattle.fabric_script.specs.Peers.{peer_in}
-use Rattle.fabric_script.specs.Ports.{port_at}
-use Rattle.fabric_map.specs.Topology.{IsTopology, IsPortIn, device_ports}
-use Rattle.fabric_map.specs.Fitting.{Fits}
-use Rattle.fabric_map.specs.Plain.{topology_of, registers_of}
+use Rattle.host_enumerate.proofs.Prelude.{◌≡◌, ℕ, zero, suc, ◌/◌, ◌%◌, ◌^◌, ◌<◌, ◌≤◌, is_some, Bool, true, false, Some, None, ◌⊎◌, inl, inr, arith, refl, sym, ap, subst, ◌∙◌, if◌then◌else◌, same_Some, length-replicate, PortRef, same_port, port_is, IsDevice, new_endpoint, no_routes, is_switch, peer_in, port_at, IsTopology, IsPortIn, device_ports, Fits, topology_of, registers_of}
 use Rattle.host_enumerate.specs.Examples.{pair_devices, pair_links}
 
 abbrev Ends : PortRef → PortRef → Type 0
-Ends p q =
-    ((port_at 0 0 ≡ p) × (port_at 1 0 ≡ q)) ⊎ ((port_at 1 0 ≡ p) × (port_at 0 0 ≡ q))
+Ends p q = ((port_at 0 0 ≡ p) × (port_at 1 0 ≡ q)) ⊎ ((port_at 1 0 ≡ p) × (port_at 0 0 ≡ q))
 
 -- the link has two ends
 ends : (p q : PortRef) → peer_in pair_links p ≡ Some q → Ends p q
@@ -24,8 +12,7 @@ ends p q linked = go (same_port (port_at 0 0) p) (same_port (port_at 1 0) p) ref
     go : (a b : Bool) → same_port (port_at 0 0) p ≡ a → same_port (port_at 1 0) p ≡ b
         → (if a then Some (port_at 1 0) else (if b then Some (port_at 0 0) else None)) ≡ Some q
         → Ends p q
-    go true b first second at =
-        inl (port_is (port_at 0 0) p first, same_Some (port_at 1 0) q at)
+    go true b first second at = inl (port_is (port_at 0 0) p first, same_Some (port_at 1 0) q at)
     go false true first second at =
         inr (port_is (port_at 1 0) p second, same_Some (port_at 0 0) q at)
     go false false first second at = absurd (cc)

@@ -1,14 +1,6 @@
 -- Where a request goes by plain registers, one link after another.
 use Rattle.std.proofs.Common.{◌≡◌, ◌≢◌, ℕ, zero, suc, ◌-◌, ◌<◌, true, false, List, length, slice_index_or, Option, Some, None, option_and_then, arith, refl, sym, ap, subst, ◌∙◌}
-use Rattle.std.proofs.lemmas.Option.{same_Some}
-use Rattle.fabric_script.specs.declared.ports.PortRef.{PortRef}
-use Rattle.maint_registers.specs.Devices.{Registers, is_switch}
-use Rattle.maint_registers.specs.Routes.{next_port}
-use Rattle.fabric_script.specs.Peers.{peer_in}
-use Rattle.fabric_script.specs.Ports.{port_at}
-use Rattle.fabric_map.specs.Topology.{Topology, IsTopology}
-use Rattle.fabric_map.specs.Routes.{AllRegisters, passed, walk}
-use Rattle.fabric_map.specs.Plain.{ports_of_switch, topology_of, registers_of}
+use Rattle.host_enumerate.proofs.Prelude.{same_Some, PortRef, Registers, is_switch, next_port, peer_in, port_at, Topology, IsTopology, AllRegisters, passed, walk, ports_of_switch, topology_of, registers_of}
 use Rattle.host_enumerate.proofs.Accessed.{read_is, registers_of-read}
 
 -- behind a link there is a device

@@ -1,13 +1,5 @@
 -- A device that was taken is prepared by its kind.
-use Rattle.std.proofs.Common.{◌≡◌, ◌≢◌, ℕ, Bool, true, false, List, Some, bit_and, refl, sym, ap, subst, ◌∙◌, if◌then◌else◌}
-use Rattle.std.proofs.lemmas.Option.{same_Some}
-use Rattle.fabric_script.specs.declared.ports.PortRef.{PortRef}
-use Rattle.maint_registers.specs.Devices.{Registers, is_switch}
-use Rattle.maint_registers.specs.Access.{value_at}
-use Rattle.maint_registers.proofs.AccessLaws.{features-read}
-use Rattle.fabric_map.specs.Topology.{Topology}
-use Rattle.fabric_map.specs.Routes.{AllRegisters}
-use Rattle.host_enumerate.specs.Asking.{IsAskable, IsApart, AreSame}
+use Rattle.host_enumerate.proofs.Prelude.{◌≡◌, ◌≢◌, ℕ, Bool, true, false, List, Some, bit_and, refl, sym, ap, subst, ◌∙◌, if◌then◌else◌, same_Some, PortRef, Registers, is_switch, value_at, features-read, Topology, AllRegisters, IsAskable, IsApart, AreSame}
 use Rattle.host_enumerate.proofs.Holders.{askable-same}
 
 features_are : (device : Registers) (port features : ℕ) → value_at device 0x10 port ≡ Some features

@@ -1,19 +1,5 @@
 -- The entries of an ID are set along a path, one switch after another.
-use Rattle.std.proofs.Common.{rules, ◌≡◌, ◌≢◌, ℕ, ◌-◌, ◌≤◌, ◌<◌, ◌==◌, Bool, true, false, List, [], ◌∷◌, ◌++◌, length, take, drop, get_or, Option, Some, None, arith, refl, sym, ap, subst, ◌∙◌, eqb-true, append_assoc, append-nil, if◌then◌else◌, ◌&&◌, nat_lt}
-use Rattle.std.specs.Option.{option_and_then}
-use Rattle.std.proofs.lemmas.Bool.{eqb-false}
-use Rattle.std.proofs.lemmas.List.{take_all}
-use Rattle.fabric_script.specs.declared.ports.PortRef.{PortRef}
-use Rattle.fabric_script.specs.Ports.{port_at}
-use Rattle.maint_registers.specs.Devices.{Registers, is_switch}
-use Rattle.maint_registers.specs.Routes.{next_port, port_named}
-use Rattle.maint_registers.proofs.RouteLaws.{next-same, entry-set_other}
-use Rattle.fabric_map.specs.Topology.{Topology, behind_port, along, entered}
-use Rattle.fabric_map.specs.Walked.{onward}
-use Rattle.fabric_map.specs.Routes.{AllRegisters}
-use Rattle.fabric_map.specs.Ways.{IsOpened}
-use Rattle.host_enumerate.specs.Asking.{IsAskable, IsApart, PassesOnce, Becomes}
-use Rattle.host_enumerate.specs.Setting.{with_entry, PathPasses, AreRouted}
+use Rattle.host_enumerate.proofs.Prelude.{rules, ◌≡◌, ◌≢◌, ℕ, ◌-◌, ◌≤◌, ◌<◌, ◌==◌, Bool, true, false, List, [], ◌∷◌, ◌++◌, length, take, drop, get_or, Option, Some, None, arith, refl, sym, ap, subst, ◌∙◌, eqb-true, append_assoc, append-nil, if◌then◌else◌, ◌&&◌, nat_lt, option_and_then, eqb-false, take_all, PortRef, port_at, Registers, is_switch, next_port, port_named, next-same, entry-set_other, Topology, behind_port, along, entered, onward, AllRegisters, IsOpened, IsAskable, IsApart, PassesOnce, Becomes, with_entry, PathPasses, AreRouted}
 use Rattle.host_enumerate.proofs.Opening.{SendsAs, opened-as, base_id_stays, became, stays, same_end}
 
 -- a path that leads on enters a device before

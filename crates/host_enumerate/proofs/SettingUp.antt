@@ -1,18 +1,5 @@
 -- A switch is set up, one step after another.
-use Rattle.std.proofs.Common.{◌≡◌, ℕ, ◌+◌, ◌*◌, ◌/◌, ◌%◌, ◌≤◌, ◌<◌, true, List, Some, arith, refl, sym, ap, subst, ◌∙◌}
-use Rattle.std.proofs.lemmas.Option.{same_Some}
-use Rattle.fabric_script.specs.declared.ports.PortRef.{PortRef}
-use Rattle.maint_registers.specs.Devices.{Registers, is_switch}
-use Rattle.maint_registers.specs.Access.{value_at, written_at}
-use Rattle.maint_registers.proofs.AccessLaws.{port_information-read, default_port-written}
-use Rattle.maint_registers.proofs.RouteLaws.{entry-set_same, entry-set_other}
-use Rattle.fabric_map.specs.Topology.{Topology, IsTopology, entered}
-use Rattle.fabric_map.specs.Routes.{AllRegisters}
-use Rattle.fabric_map.specs.Fitting.{Fits}
-use Rattle.fabric_map.proofs.Few.{entered-inside}
-use Rattle.fabric_map.proofs.Few.{entered-port}
-use Rattle.host_enumerate.specs.Asking.{IsAskable, IsApart, IsWritable, AreSame, Becomes}
-use Rattle.host_enumerate.specs.Setting.{with_entry, IsSameBut, IsCleared, SwitchIsSetUp}
+use Rattle.host_enumerate.proofs.Prelude.{◌≡◌, ℕ, ◌+◌, ◌*◌, ◌/◌, ◌%◌, ◌≤◌, ◌<◌, true, List, Some, arith, refl, sym, ap, subst, ◌∙◌, same_Some, PortRef, Registers, is_switch, value_at, written_at, port_information-read, default_port-written, entry-set_same, entry-set_other, Topology, IsTopology, entered, AllRegisters, Fits, entered-inside, entered-port, IsAskable, IsApart, IsWritable, AreSame, Becomes, with_entry, IsSameBut, IsCleared, SwitchIsSetUp}
 use Rattle.host_enumerate.proofs.Frames.{with_device-itself}
 use Rattle.host_enumerate.proofs.Opening.{became}
 use Rattle.host_enumerate.proofs.Entries.{Leaves, becomes-twice, askable-written}

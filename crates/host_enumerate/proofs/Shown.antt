@@ -1,15 +1,5 @@
 -- What registers show of a kind, and which paths stay open while IDs are given.
-use Rattle.std.proofs.Common.{◌≡◌, ◌≢◌, ℕ, ◌+◌, ◌<◌, ◌≤◌, ◌⊎◌, inl, inr, true, false, List, [], ◌∷◌, ◌++◌, Option, Some, None, unwrap_or, arith, refl, sym, ap, subst, ◌∙◌, eq-eqb, ne_eqb, if◌then◌else◌}
-use Rattle.std.proofs.lemmas.Bool.{cases_eq, false≢true}
-use Rattle.fabric_script.specs.declared.ports.PortRef.{PortRef}
-use Rattle.maint_registers.specs.Devices.{is_switch}
-use Rattle.maint_registers.specs.Routes.{next_port}
-use Rattle.fabric_map.specs.Topology.{Topology, entered}
-use Rattle.fabric_map.specs.Routes.{AllRegisters}
-use Rattle.fabric_map.specs.Fitting.{Fits}
-use Rattle.fabric_map.specs.Ways.{IsOpened}
-use Rattle.host_enumerate.specs.Setting.{AreRouted}
-use Rattle.host_enumerate.specs.Underway.{id_after}
+use Rattle.host_enumerate.proofs.Prelude.{◌≡◌, ◌≢◌, ℕ, ◌+◌, ◌<◌, ◌≤◌, ◌⊎◌, inl, inr, true, false, List, [], ◌∷◌, ◌++◌, Option, Some, None, unwrap_or, arith, refl, sym, ap, subst, ◌∙◌, eq-eqb, ne_eqb, if◌then◌else◌, cases_eq, false≢true, PortRef, is_switch, next_port, Topology, entered, AllRegisters, Fits, IsOpened, AreRouted, id_after}
 use Rattle.host_enumerate.proofs.Opening.{SendsAs, opened-as}
 use Rattle.host_enumerate.proofs.Routing.{entry_sends}
 

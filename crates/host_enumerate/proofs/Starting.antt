@@ -1,31 +1,5 @@
 -- A walk begins with the host and its neighbour.
-use Rattle.std.proofs.Common.{◌≡◌, ◌+◌, ℕ, ◌<◌, ◌*◌, ◌/◌, inr, List, [], ◌∷◌, Contains, Option, Some, None, IsSome, arith, refl, sym, subst, ◌∙◌}
-use Rattle.std.proofs.lemmas.List.Elements.{Contains-push}
-use Rattle.std.proofs.lemmas.Option.{same_Some}
-use Rattle.fabric_script.specs.declared.ports.PortRef.{PortRef}
-use Rattle.fabric_script.specs.Ports.{port_at}
-use Rattle.maint_registers.specs.Access.{value_at}
-use Rattle.maint_registers.proofs.AccessLaws.{base_id-read}
-use Rattle.fabric_map.specs.declared.map.Kind.{Kind}
-use Rattle.fabric_map.specs.declared.map.Kind.TheVariants.{Endpoint, Switch}
-use Rattle.fabric_map.specs.declared.map.Device.{Device}
-use Rattle.fabric_map.specs.Topology.{Topology, IsTopology, entered}
-use Rattle.fabric_map.specs.Walked.{onward, after_all_paths}
-use Rattle.fabric_map.specs.Routes.{AllRegisters}
-use Rattle.fabric_map.specs.Fitting.{Fits}
-use Rattle.fabric_map.specs.Locked.{IsNext}
-use Rattle.fabric_map.specs.Numbered.{paths_of, IsDescribed}
-use Rattle.fabric_map.proofs.Lists.{not_in_empty}
-use Rattle.fabric_map.proofs.Steps.{begins}
-use Rattle.fabric_map.proofs.Leading.{followed-host, some_from_same}
-use Rattle.fabric_map.proofs.Growing.{path_listed, described-listed, described-switch, described-endpoint}
-use Rattle.host_enumerate.specs.declared.maint.Maint.{Ghosts}
-use Rattle.host_enumerate.specs.declared.taking.Numbering.{Numbering}
-use Rattle.host_enumerate.specs.Asking.{IsAskable, AreSame}
-use Rattle.host_enumerate.specs.Underway.{met_as, AreUntagged, IsUnderway}
-use Rattle.host_enumerate.specs.Carrying.{IsNumbering}
-use Rattle.host_enumerate.specs.TakingIn.{IsTried}
-use Rattle.host_enumerate.specs.Founds.{IsFound, HasFound}
+use Rattle.host_enumerate.proofs.Prelude.{◌≡◌, ◌+◌, ℕ, ◌<◌, ◌*◌, ◌/◌, inr, List, [], ◌∷◌, Contains, Option, Some, None, IsSome, arith, refl, sym, subst, ◌∙◌, Contains-push, same_Some, PortRef, port_at, value_at, base_id-read, Kind, Endpoint, Switch, Device, Topology, IsTopology, entered, onward, after_all_paths, AllRegisters, Fits, IsNext, paths_of, IsDescribed, not_in_empty, begins, followed-host, some_from_same, path_listed, described-listed, described-switch, described-endpoint, Ghosts, Numbering, IsAskable, AreSame, met_as, AreUntagged, IsUnderway, IsNumbering, IsTried, IsFound, HasFound}
 use Rattle.host_enumerate.proofs.Tried.{PathTried}
 use Rattle.host_enumerate.proofs.Counting.{counted-none}
 use Rattle.host_enumerate.proofs.Stepping.{entered-linked, followed-ports, followed-none, underway-past, underway-closed}

@@ -1,18 +1,5 @@
 -- Which path is tried next: past a port, behind a device that was taken in, and back.
-use Rattle.std.proofs.Common.{rules, ◌≡◌, ◌≢◌, ℕ, ◌+◌, ◌<◌, nat_lt, Bool, true, false, List, [], Option, Some, None, IsSome, option_map, Contains, inr, subst, sym, refl, ap, ◌∙◌, if◌then◌else◌, ne_eqb, lt-ltb}
-use Rattle.std.specs.Option.{option_and_then}
-use Rattle.fabric_script.specs.declared.ports.PortRef.{PortRef}
-use Rattle.fabric_script.specs.Ports.{port_at}
-use Rattle.fabric_map.specs.declared.map.Device.{Device}
-use Rattle.fabric_map.specs.Topology.{Topology, IsTopology, ports_followed, behind_port, entered, node_at}
-use Rattle.fabric_map.specs.Walked.{onward, IsMet, Walked}
-use Rattle.fabric_map.specs.Routes.{AllRegisters}
-use Rattle.fabric_map.specs.Numbered.{paths_of}
-use Rattle.fabric_map.proofs.Order.{Before-further, Before-transitive}
-use Rattle.fabric_map.proofs.Steps.{goes_past, closes}
-use Rattle.fabric_map.proofs.Leading.{along-onward, onward_is_followed}
-use Rattle.fabric_map.proofs.Ways.{behind-link}
-use Rattle.host_enumerate.specs.Underway.{IsUnderway}
+use Rattle.host_enumerate.proofs.Prelude.{rules, ◌≡◌, ◌≢◌, ℕ, ◌+◌, ◌<◌, nat_lt, Bool, true, false, List, [], Option, Some, None, IsSome, option_map, Contains, inr, subst, sym, refl, ap, ◌∙◌, if◌then◌else◌, ne_eqb, lt-ltb, option_and_then, PortRef, port_at, Device, Topology, IsTopology, ports_followed, behind_port, entered, node_at, onward, IsMet, Walked, AllRegisters, paths_of, Before-further, Before-transitive, goes_past, closes, along-onward, onward_is_followed, behind-link, IsUnderway}
 
 -- where a path leads with one port more
 pub entered-onward : (topology : Topology) (path : List ℕ) (at : PortRef) (port : ℕ)

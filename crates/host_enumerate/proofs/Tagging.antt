@@ -1,13 +1,5 @@
 -- A device that was taken gets its tag.
-use Rattle.std.proofs.Common.{◌≡◌, ℕ, ◌+◌, List, length, Some, refl, sym, ap, subst, ◌∙◌}
-use Rattle.fabric_script.specs.declared.ports.PortRef.{PortRef}
-use Rattle.maint_registers.proofs.AccessLaws.{tag-written}
-use Rattle.fabric_map.specs.declared.map.Kind.{Kind}
-use Rattle.fabric_map.specs.declared.map.Device.{Device}
-use Rattle.fabric_map.specs.Topology.{Topology, entered}
-use Rattle.fabric_map.specs.Routes.{AllRegisters}
-use Rattle.host_enumerate.specs.Asking.{IsAskable, IsApart, IsWritable, Becomes}
-use Rattle.host_enumerate.specs.TakingIn.{IsKindLeft, IsTakenIn}
+use Rattle.host_enumerate.proofs.Prelude.{◌≡◌, ℕ, ◌+◌, List, length, Some, refl, sym, ap, subst, ◌∙◌, PortRef, tag-written, Kind, Device, Topology, entered, AllRegisters, IsAskable, IsApart, IsWritable, Becomes, IsKindLeft, IsTakenIn}
 use Rattle.host_enumerate.proofs.Entries.{Leaves, askable-written}
 
 pub tag-writable : (topology : Topology) (registers : AllRegisters) (path : List ℕ) (at : PortRef)

@@ -1,30 +1,5 @@
 -- An endpoint that is taken in, and the switches on the way to it.
-use Rattle.std.proofs.Common.{◌≡◌, ◌≢◌, ℕ, ◌+◌, ◌<◌, true, List, [], ◌∷◌, ◌++◌, length, Option, Some, None, Contains, arith, ◌⊎◌, inl, inr, subst, sym, refl, ap, ◌∙◌, ◌||◌, eq-eqb}
-use Rattle.std.proofs.lemmas.Option.{same_Some}
-use Rattle.std.specs.Option.{option_and_then}
-use Rattle.std.proofs.lemmas.List.{length-map}
-use Rattle.std.proofs.lemmas.List.Elements.{All-contains}
-use Rattle.fabric_script.specs.declared.ports.PortRef.{PortRef}
-use Rattle.fabric_script.specs.Ports.{port_at}
-use Rattle.fabric_map.specs.declared.map.Kind.{Kind}
-use Rattle.fabric_map.specs.declared.map.Kind.TheVariants.{Endpoint, Switch}
-use Rattle.fabric_map.specs.declared.map.Device.{Device}
-use Rattle.fabric_map.specs.Topology.{Topology, behind_port, along, entered, node_at}
-use Rattle.fabric_map.specs.Walked.{Before, onward, Walked}
-use Rattle.fabric_map.specs.Routes.{AllRegisters}
-use Rattle.fabric_map.specs.Fitting.{Fits}
-use Rattle.fabric_map.specs.Locked.{IsNext}
-use Rattle.fabric_map.specs.Numbered.{is_given, paths_of, toward, IsLeastFree, IsIdOf, IsKindAt, IsDescribed, AreDescribed}
-use Rattle.fabric_map.proofs.Lists.{Contains-cases, AllPairs-first}
-use Rattle.fabric_map.proofs.Leading.{port_of_entry, along-append}
-use Rattle.fabric_map.proofs.Ways.{behind-link, followed-switch}
-use Rattle.fabric_map.proofs.Branches.{toward-further, further_from_toward}
-use Rattle.fabric_map.proofs.Few.{entered-inside, walked-fewer}
-use Rattle.fabric_map.proofs.Growing.{path_listed, device_on, described-listed, node_at-entered, host-first}
-use Rattle.fabric_map.proofs.Fronts.{not_before_empty, passed_listed}
-use Rattle.fabric_map.proofs.Given.{has_id-endpoint}
-use Rattle.host_enumerate.specs.Setting.{with_entry, PathPasses, AreRouted}
-use Rattle.host_enumerate.specs.Underway.{id_after, met_as, IsHeld, IsUnmet, IsUnderway}
+use Rattle.host_enumerate.proofs.Prelude.{◌≡◌, ◌≢◌, ℕ, ◌+◌, ◌<◌, true, List, [], ◌∷◌, ◌++◌, length, Option, Some, None, Contains, arith, ◌⊎◌, inl, inr, subst, sym, refl, ap, ◌∙◌, ◌||◌, eq-eqb, same_Some, option_and_then, length-map, All-contains, PortRef, port_at, Kind, Endpoint, Switch, Device, Topology, behind_port, along, entered, node_at, Before, onward, Walked, AllRegisters, Fits, IsNext, is_given, paths_of, toward, IsLeastFree, IsIdOf, IsKindAt, IsDescribed, AreDescribed, Contains-cases, AllPairs-first, port_of_entry, along-append, behind-link, followed-switch, toward-further, further_from_toward, entered-inside, walked-fewer, path_listed, device_on, described-listed, node_at-entered, host-first, not_before_empty, passed_listed, has_id-endpoint, with_entry, PathPasses, AreRouted, id_after, met_as, IsHeld, IsUnmet, IsUnderway}
 use Rattle.host_enumerate.proofs.Askable.{never_empty}
 use Rattle.host_enumerate.proofs.Counting.{id_after-few, counted-endpoint, counted-least}
 use Rattle.host_enumerate.proofs.Lengthening.{held-beside, held-passed, held-endpoint, underway-taken}
@@ -217,8 +192,7 @@ module _ (topology : Topology) (before now mid after : AllRegisters) (host_id ne
   held-member : (member : Device) (node : ℕ) → Contains devices member
       → node_at topology member.path ≡ Some node
       → IsHeld host_id (devices ++ endpoint ∷ []) member (before node) (after node)
-  held-member member node listed same =
-      go member.path (toward member.path (first ∷ rest)) refl refl
+  held-member member node listed same = go member.path (toward member.path (first ∷ rest)) refl refl
     where
       held : IsHeld host_id devices member (before node) (now node)
       held = underway.held member node listed same
@@ -241,8 +215,7 @@ module _ (topology : Topology) (before now mid after : AllRegisters) (host_id ne
 
       host_path : member.path ≡ [] → (port : ℕ)
           → ¬ PathPasses topology (first ∷ []) rest node port
-      host_path empty port passes =
-          (toward_from_passes member node port listed same passes).0 empty
+      host_path empty port passes = (toward_from_passes member node port listed same passes).0 empty
 
       switch : (port : ℕ) → toward member.path (first ∷ rest) ≡ Some port → member.path ≢ []
           → (ports : ℕ) × (entry : ℕ) × (member.kind ≡ Switch ports entry)
@@ -278,11 +251,8 @@ module _ (topology : Topology) (before now mid after : AllRegisters) (host_id ne
       go : (p : List ℕ) (o : Option ℕ) → member.path ≡ p
           → toward member.path (first ∷ rest) ≡ o
           → IsHeld host_id (devices ++ endpoint ∷ []) member (before node) (after node)
-      go p None is leads =
-          stays (none leads) (held-beside endpoint held id refl least.free leads)
-      go [] (Some port) is leads =
-          stays (host_path is)
-          (held-endpoint endpoint held (host_kind is))
+      go p None is leads = stays (none leads) (held-beside endpoint held id refl least.free leads)
+      go [] (Some port) is leads = stays (host_path is) (held-endpoint endpoint held (host_kind is))
         where
           host_kind : member.path ≡ [] → (given : ℕ) × (member.kind ≡ Endpoint given)
           host_kind is =

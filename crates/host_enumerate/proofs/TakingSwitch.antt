@@ -1,23 +1,5 @@
 -- A switch that is taken in, and the host itself.
-use Rattle.std.proofs.Common.{◌≡◌, ◌≢◌, ℕ, ◌+◌, ◌<◌, List, [], ◌∷◌, ◌++◌, length, Some, None, unwrap_or, All, Contains, inl, subst, sym, refl, ap, ◌∙◌}
-use Rattle.std.proofs.lemmas.Option.{same_Some}
-use Rattle.std.proofs.lemmas.List.{get_or-map, length-map}
-use Rattle.fabric_script.specs.declared.ports.PortRef.{PortRef}
-use Rattle.fabric_script.specs.Ports.{port_at}
-use Rattle.maint_registers.specs.Devices.{Registers}
-use Rattle.fabric_map.specs.declared.map.Kind.TheVariants.{Endpoint, Switch}
-use Rattle.fabric_map.specs.declared.map.Device.{Device}
-use Rattle.fabric_map.specs.Topology.{Topology, entered, node_at}
-use Rattle.fabric_map.specs.Walked.{Before, onward}
-use Rattle.fabric_map.specs.Routes.{AllRegisters}
-use Rattle.fabric_map.specs.Locked.{IsForeign, IsNext}
-use Rattle.fabric_map.specs.Numbered.{paths_of, port_toward, IsKindAt, IsDescribed, ChangesOnly}
-use Rattle.fabric_map.proofs.Lists.{Contains-first, not_in_empty}
-use Rattle.fabric_map.proofs.Branches.{port_toward-unbegun, port_toward-other}
-use Rattle.fabric_map.proofs.Growing.{device_on, node_at-entered}
-use Rattle.fabric_map.proofs.Given.{has_id-switch}
-use Rattle.host_enumerate.specs.Setting.{SwitchIsSetUp}
-use Rattle.host_enumerate.specs.Underway.{met_as, IsHeld, IsUnmet, IsUnderway}
+use Rattle.host_enumerate.proofs.Prelude.{◌≡◌, ◌≢◌, ℕ, ◌+◌, ◌<◌, List, [], ◌∷◌, ◌++◌, length, Some, None, unwrap_or, All, Contains, inl, subst, sym, refl, ap, ◌∙◌, same_Some, get_or-map, length-map, PortRef, port_at, Registers, Endpoint, Switch, Device, Topology, entered, node_at, Before, onward, AllRegisters, IsForeign, IsNext, paths_of, port_toward, IsKindAt, IsDescribed, ChangesOnly, Contains-first, not_in_empty, port_toward-unbegun, port_toward-other, device_on, node_at-entered, has_id-switch, SwitchIsSetUp, met_as, IsHeld, IsUnmet, IsUnderway}
 use Rattle.host_enumerate.proofs.Counting.{counted-switch, counted-host}
 use Rattle.host_enumerate.proofs.Lengthening.{held-switch, underway-taken}
 

@@ -1,27 +1,7 @@
 -- What is known of a path that is tried, for the call that tries it.
-use Rattle.std.proofs.Common.{◌≡◌, ◌≢◌, ℕ, ◌<◌, ◌≤◌, inl, List, [], ◌∷◌, ◌++◌, length, Option, Some, refl, sym, ap, subst, ◌∙◌}
-use Rattle.fabric_script.specs.declared.ports.PortRef.{PortRef}
-use Rattle.maint_registers.specs.Devices.{Registers}
-use Rattle.fabric_map.specs.declared.map.Kind.{Kind}
-use Rattle.fabric_map.specs.declared.map.Device.{Device}
-use Rattle.fabric_map.specs.Topology.{Topology, entered}
-use Rattle.fabric_map.specs.Walked.{onward}
-use Rattle.fabric_map.specs.Routes.{AllRegisters}
-use Rattle.fabric_map.specs.Fitting.{Fits}
-use Rattle.fabric_map.specs.Ways.{IsOpened}
-use Rattle.fabric_map.specs.Locked.{IsForeign, IsNext}
-use Rattle.fabric_map.specs.Numbered.{paths_of}
-use Rattle.fabric_map.specs.Walked.{IsMet}
+use Rattle.host_enumerate.proofs.Prelude.{◌≡◌, ◌≢◌, ℕ, ◌<◌, ◌≤◌, inl, List, [], ◌∷◌, ◌++◌, length, Option, Some, refl, sym, ap, subst, ◌∙◌, PortRef, Registers, Kind, Device, Topology, entered, onward, AllRegisters, Fits, IsOpened, IsForeign, IsNext, paths_of, IsMet, Ghosts, Numbering, IsAskable, IsApart, PassesOnce, AreSame, Becomes, IsTakable, IsHolder, met_as, IsUnderway, IsNumbering, IsTakenIn, IsTried, EndsAtLock}
 use Rattle.host_enumerate.specs.declared.taking.Holder.{Holder}
 use Rattle.host_enumerate.specs.declared.taking.Holder.TheVariants.{Taken, Met, Other}
-use Rattle.host_enumerate.specs.declared.maint.Maint.{Ghosts}
-use Rattle.host_enumerate.specs.declared.taking.Numbering.{Numbering}
-use Rattle.host_enumerate.specs.Asking.{IsAskable, IsApart, PassesOnce, AreSame, Becomes}
-use Rattle.host_enumerate.specs.Holding.{IsTakable, IsHolder}
-use Rattle.host_enumerate.specs.Underway.{met_as, IsUnderway}
-use Rattle.host_enumerate.specs.Carrying.{IsNumbering}
-use Rattle.host_enumerate.specs.TakingIn.{IsTakenIn, IsTried}
-use Rattle.host_enumerate.specs.Ends.{EndsAtLock}
 use Rattle.host_enumerate.proofs.Opening.{opened-same}
 use Rattle.host_enumerate.proofs.Entries.{askable-written}
 use Rattle.host_enumerate.proofs.Meeting.{met-tagged, ends_at_lock}

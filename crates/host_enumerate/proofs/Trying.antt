@@ -1,26 +1,5 @@
 -- A path is tried: the device on it is taken in.
-use Rattle.std.proofs.Common.{◌≡◌, ◌≢◌, ℕ, ◌+◌, ◌<◌, ◌≤◌, inl, inr, true, false, List, [], ◌∷◌, ◌++◌, length, All, Bool, Some, arith, refl, sym, ap, subst, ◌∙◌}
-use Rattle.fabric_script.specs.declared.ports.PortRef.{PortRef}
-use Rattle.fabric_script.specs.Ports.{port_at}
-use Rattle.maint_registers.specs.Devices.{Registers, is_switch}
-use Rattle.fabric_map.specs.declared.map.Kind.{Kind}
-use Rattle.fabric_map.specs.declared.map.Kind.TheVariants.{Endpoint, Switch}
-use Rattle.fabric_map.specs.declared.map.Device.{Device}
-use Rattle.fabric_map.specs.Topology.{Topology, entered, node_at}
-use Rattle.fabric_map.specs.Walked.{Before, onward}
-use Rattle.fabric_map.specs.Routes.{AllRegisters}
-use Rattle.fabric_map.specs.Fitting.{Fits}
-use Rattle.fabric_map.specs.Ways.{IsOpened}
-use Rattle.fabric_map.specs.Locked.{IsForeign, IsNext}
-use Rattle.fabric_map.specs.Numbered.{paths_of}
-use Rattle.fabric_map.proofs.Fronts.{not_before_empty}
-use Rattle.fabric_map.proofs.Few.{entered-inside}
-use Rattle.fabric_map.proofs.Growing.{device_on}
-use Rattle.host_enumerate.specs.Asking.{IsAskable, IsApart, PassesOnce, AreSame, Becomes}
-use Rattle.host_enumerate.specs.Setting.{AreRouted, HasNewId, SwitchIsSetUp}
-use Rattle.host_enumerate.specs.Holding.{IsTakable}
-use Rattle.host_enumerate.specs.Underway.{id_after, given_below, met_as, IsUnmet, IsUnderway}
-use Rattle.host_enumerate.specs.TakingIn.{IsKindLeft}
+use Rattle.host_enumerate.proofs.Prelude.{◌≡◌, ◌≢◌, ℕ, ◌+◌, ◌<◌, ◌≤◌, inl, inr, true, false, List, [], ◌∷◌, ◌++◌, length, All, Bool, Some, arith, refl, sym, ap, subst, ◌∙◌, PortRef, port_at, Registers, is_switch, Kind, Endpoint, Switch, Device, Topology, entered, node_at, Before, onward, AllRegisters, Fits, IsOpened, IsForeign, IsNext, paths_of, not_before_empty, entered-inside, device_on, IsAskable, IsApart, PassesOnce, AreSame, Becomes, AreRouted, HasNewId, SwitchIsSetUp, IsTakable, id_after, given_below, met_as, IsUnmet, IsUnderway, IsKindLeft}
 use Rattle.host_enumerate.proofs.Opening.{opened-same, opened-apart, became, stays, same_end}
 use Rattle.host_enumerate.proofs.Counting.{id_after-few}
 use Rattle.host_enumerate.proofs.Meeting.{unmet-lock, unmet-untagged}
@@ -149,9 +128,7 @@ module _ {topology : Topology} {before now : AllRegisters} {host_id next : ℕ}
         (record (now at.node) { lock = host_id }) askable.opened lock apart) tag apart
 
     shown : (is : Bool) → is_switch (mid at.node) ≡ is → is_switch (now at.node) ≡ is
-    shown is same =
-        ap is_switch was
-        ∙ (sym (ap (λ d. is_switch d) is_base) ∙ same)
+    shown is same = ap is_switch was ∙ (sym (ap (λ d. is_switch d) is_base) ∙ same)
 
     ports_shown : (mid at.node).ports ≡ (now at.node).ports
     ports_shown = ap (λ (d : Registers). d.ports) (is_base) ∙ ap
@@ -254,8 +231,7 @@ module _ {topology : Topology} {before now : AllRegisters} {host_id next : ℕ}
         → IsUnderway topology before after host_id
         (devices ++ met_as devices (Endpoint id) path ∷ []) next_after (onward path 0)
         × IsOpened topology after host_id path
-    endpoint_tried id first rest is kind_is (is_id, is_next_id, given) =
-        go (given first rest is)
+    endpoint_tried id first rest is kind_is (is_id, is_next_id, given) = go (given first rest is)
       where
         apart_ids : (255 ≢ id) × (host_id ≢ id)
         apart_ids = subst (λ n. (255 ≢ n) × (host_id ≢ n)) (sym is_id)

@@ -1,30 +1,6 @@
 -- Each `done` line is of the reply to a packet that was served before, and no two are of one.
-use Rattle.std.proofs.Common.{◌≡◌, ◌≤◌, ◌⊎◌, inl, inr, ℕ, zero, suc, List, [], ◌∷◌, ◌++◌, length, map, Option, Some, None, refl, sym, ap, ap₂, option_map, ◌∙◌, subst, arith, append-nil, if◌then◌else◌}
-use Rattle.std.specs.Prelude.{slice_get}
-use Rattle.std.specs.List.{AllByRecursion}
-use Rattle.std.proofs.lemmas.Bool.{eq-eqb}
+use Rattle.io_law.proofs.Prelude.{◌≡◌, ◌≤◌, ◌⊎◌, inl, inr, ℕ, zero, suc, List, [], ◌∷◌, ◌++◌, length, map, Option, Some, None, refl, sym, ap, ap₂, option_map, ◌∙◌, subst, arith, append-nil, if◌then◌else◌, slice_get, AllByRecursion, eq-eqb, ftype_of, Numbered, Item, EndLeft, ended_by, taken_by, items_taken, gone, WasTaken, how_often, IsAfterMoves, moves, all-parts, steps_of, start, set_up_all, bare, lawful, Done, NumberedIo, met_by, IoState, IoGoes, IoComes, Here, Further, IsIoFit, first_state, io_of, IoTold, ToldCame, io_told, told_by, and_told, io_asked, asked_by, network_at, came, IsSentBy, DonesAnswerRequests, io_number_of, IoArrival, Served, arrived_by, io_arrived, served_by, io_served_at, reply_to, IoSent, io_sent_by, sent_at, IsIoServed, IsReplyTo}
 use Rattle.std.proofs.lemmas.Option.{slice_get-map}
-use Rattle.rio_packets.specs.Fields.{ftype_of}
-use Rattle.fabric_script.specs.declared.lines.Numbered.{Numbered}
-use Rattle.fabric_model.specs.Network.{Item}
-use Rattle.fabric_model.specs.Laws.History.{EndLeft, ended_by, taken_by, items_taken, gone, WasTaken}
-use Rattle.fabric_model.specs.Laws.Holding.{how_often}
-use Rattle.fabric_model.specs.Laws.Leaving.{IsAfterMoves, moves}
-use Rattle.fabric_model.proofs.Lists.{all-parts}
-use Rattle.trace_lines.specs.Lines.{steps_of}
-use Rattle.fabric_trace.specs.Runs.{start, set_up_all, bare}
-use Rattle.fabric_trace.proofs.SetUps.Starting.{lawful}
-use Rattle.io_memory.specs.declared.meeting.Met.TheVariants.{Done}
-use Rattle.io_script.specs.declared.lines.NumberedIo.{NumberedIo}
-use Rattle.io_rounds.specs.Stations.{met_by}
-use Rattle.io_rounds.specs.Going.{IoState, IoGoes, IoComes, Here, Further}
-use Rattle.io_rounds.specs.Drives.{IsIoFit, first_state}
-use Rattle.io_packets.specs.Reading.{io_of}
-use Rattle.io_law.specs.Telling.{IoTold, ToldCame, io_told, told_by, and_told}
-use Rattle.io_law.specs.Items.{io_asked, asked_by, network_at, came, IsSentBy}
-use Rattle.io_law.specs.Laws.{DonesAnswerRequests}
-use Rattle.io_memory.specs.Laws.{io_number_of}
-use Rattle.io_law.specs.Replies.{IoArrival, Served, arrived_by, io_arrived, served_by, io_served_at, reply_to, IoSent, io_sent_by, sent_at, IsIoServed, IsReplyTo}
 use Rattle.io_law.proofs.Arriving.{same_after}
 use Rattle.io_law.proofs.Dones.{IsAReply, all_replied, arrived_came, DoneBy, done_by}
 use Rattle.io_law.proofs.Fit.{fit_comes, first_fit}

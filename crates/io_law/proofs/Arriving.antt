@@ -1,27 +1,6 @@
 -- What comes is what was taken, if it is no maintenance packet.
-use Rattle.std.proofs.Common.{ap, ◌≡◌, ℕ, Bool, true, false, List, [], ◌∷◌, ◌++◌, map, IsTrue, MatchBool, refl, ap₂, ◌∙◌, subst}
-use Rattle.std.specs.List.{AllByRecursion}
-use Rattle.std.proofs.lemmas.Bool.{false≢true}
-use Rattle.std.proofs.lemmas.List.{map-append}
-use Rattle.rio_packets.specs.Fields.{is_maintenance, Lowered}
-use Rattle.fabric_script.specs.declared.lines.Numbered.{Numbered}
-use Rattle.fabric_model.specs.Network.{Item}
-use Rattle.fabric_model.specs.Laws.History.{EndLeft, ended_by, gone, WasTaken}
-use Rattle.fabric_model.specs.Laws.Holding.{how_often}
-use Rattle.fabric_model.specs.Laws.Leaving.{IsAfterMoves, AsItWas, OnceMore, moves}
-use Rattle.fabric_model.proofs.Lists.{all-append, all_weaker, all-parts}
-use Rattle.fabric_trace.specs.Fold.{seen}
-use Rattle.trace_lines.specs.Lines.{steps_of}
-use Rattle.fabric_trace.specs.Runs.{start, set_up_all, bare}
-use Rattle.fabric_trace.specs.SetUps.{IsSetUp}
-use Rattle.fabric_trace.proofs.SetUps.Starting.{lawful}
-use Rattle.fabric_ports.specs.Events.{happened}
-use Rattle.fabric_ports.specs.declared.answers.Happened.{Happened}
+use Rattle.io_law.proofs.Prelude.{ap, ◌≡◌, ℕ, Bool, true, false, List, [], ◌∷◌, ◌++◌, map, IsTrue, MatchBool, refl, ap₂, ◌∙◌, subst, AllByRecursion, false≢true, map-append, is_maintenance, Lowered, Numbered, Item, EndLeft, ended_by, gone, WasTaken, how_often, IsAfterMoves, AsItWas, OnceMore, moves, all-append, all_weaker, all-parts, seen, steps_of, start, set_up_all, bare, IsSetUp, lawful, happened, Happened, IoTask, Carry, Ask, Settle, Turn, Reply, Fetch, Finish, IoState, IoGoes, IoBegins, IoTurns, IoActs, IoEnds, IoComes, Here, Further, came_behind, packet_behind, network_at, came_by, came, packets_by, packets_told, PacketsComeAsTaken}
 use Rattle.fabric_ports.specs.declared.answers.Happened.TheVariants as Answers
-use Rattle.io_rounds.specs.Tasks.{IoTask, Carry, Ask, Settle, Turn, Reply, Fetch, Finish}
-use Rattle.io_rounds.specs.Going.{IoState, IoGoes, IoBegins, IoTurns, IoActs, IoEnds, IoComes, Here, Further}
-use Rattle.io_law.specs.Items.{came_behind, packet_behind, network_at, came_by, came, packets_by, packets_told}
-use Rattle.io_law.specs.Laws.{PacketsComeAsTaken}
 use Rattle.io_law.proofs.Items.{left_one}
 use Rattle.io_law.proofs.Tracing.{added, IsSentTrace, event_legal, sent_comes, fit_set_up, gathered_goes}
 
@@ -30,8 +9,7 @@ use Rattle.io_law.proofs.Tracing.{added, IsSentTrace, event_legal, sent_comes, f
 one_move : (old new taken : List ℕ) (b : Bool) → is_maintenance old ≡ b
     → MatchBool b (Lowered old new) (new ≡ old) → is_maintenance new ≡ false
     → (is_maintenance old ≡ false → old ≡ taken) → new ≡ taken
-one_move old new taken true was move none before =
-    absurd (false≢true (subst IsTrue none move.is))
+one_move old new taken true was move none before = absurd (false≢true (subst IsTrue none move.is))
 one_move old new taken false was move none before = move ∙ before was
 
 pub same_after : (taken : List ℕ) (n : ℕ) (now : List ℕ) → IsAfterMoves taken n now

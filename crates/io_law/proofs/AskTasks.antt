@@ -1,21 +1,6 @@
 -- What one task does with the requests of a script.
-use Rattle.std.proofs.Common.{◌≡◌, ◌<◌, ℕ, List, [], ◌∷◌, ◌++◌, All, length, map, Option, Some, None, refl, sym, ap, ◌∙◌, subst, append-nil, append_assoc}
-use Rattle.std.specs.List.{AllByRecursion}
-use Rattle.std.proofs.lemmas.List.{length-set, map-append}
-use Rattle.std.proofs.lemmas.List.Elements.{All-cons, All-head, All-tail}
-use Rattle.fabric_script.specs.declared.lines.Line.{Line}
-use Rattle.fabric_model.specs.Network.{Network, Item}
-use Rattle.fabric_ports.specs.declared.answers.Happened.{Happened}
+use Rattle.io_law.proofs.Prelude.{◌≡◌, ◌<◌, ℕ, List, [], ◌∷◌, ◌++◌, All, length, map, Option, Some, None, refl, sym, ap, ◌∙◌, subst, append-nil, append_assoc, AllByRecursion, length-set, map-append, All-cons, All-head, All-tail, Line, Network, Item, Happened, Io, IoLine, next_tid_of, with_kept, counted_on, answer_at_node, stations_met, IoTask, Carry, Ask, Settle, Turn, Reply, Fetch, Finish, tasks_of, stations_by, task_event, task_behind, IoState, first_of_turn, behind_event, met_length, IoTold, ToldBegun, told_behind, IsSentBy, asked_behind, IoRequest, io_request, IoAsking, counts_with, next_number_of, as_list, asking_by, begun_in, ask_in, name_in_ask, AreSent}
 use Rattle.fabric_ports.specs.declared.answers.Happened.TheVariants as Answers
-use Rattle.io_packets.specs.declared.io.Io.{Io}
-use Rattle.io_script.specs.declared.lines.IoLine.{IoLine}
-use Rattle.io_rounds.specs.Stations.{next_tid_of, with_kept, counted_on, answer_at_node, stations_met}
-use Rattle.io_rounds.specs.Tasks.{IoTask, Carry, Ask, Settle, Turn, Reply, Fetch, Finish, tasks_of, stations_by, task_event, task_behind}
-use Rattle.io_rounds.specs.Going.{IoState, first_of_turn, behind_event}
-use Rattle.io_rounds.proofs.StateLaws.{met_length}
-use Rattle.io_law.specs.Telling.{IoTold, ToldBegun, told_behind}
-use Rattle.io_law.specs.Items.{IsSentBy, asked_behind}
-use Rattle.io_law.specs.Asks.{IoRequest, io_request, IoAsking, counts_with, next_number_of, as_list, asking_by, begun_in, ask_in, name_in_ask, AreSent}
 use Rattle.io_law.proofs.Asking.{same_tid, begun_tid, begun_long, met_tid, counted_long, TidIs, counted_numbers, head_asks, RestAsksNot, carried, CarriesWithin, NextIs, rest_none, rest_on, line_next, line_rest, line_carries, line_within, line_due, IsAsking, sent_append, one_sent, AskSends}
 
 -- ---- one task
@@ -227,9 +212,7 @@ module _ (all : List IoLine) (net : Network) (count : ℕ) (asking : IoAsking)
       quiet s (Fetch node ∷ s.tasks) s s.tasks was was.next refl (λ n. refl)
       (rest_none s.tasks was.rest) (rest_on s.tasks was.rest)
       (All-tail (CarriesWithin count) (Fetch node) s.tasks was.within) refl
-  event_asking names (Carry own) line what taken old s was event one sends = absurd cc
-  event_asking names (Turn node) line what taken old s was event one sends = absurd cc
-  event_asking names Finish line what taken old s was event one sends = absurd cc
+  event_asking names _ line what taken old s was event one sends = absurd cc
 
   -- an event, from a state with the same stations
   pub event_from : (names : List (List ℕ)) (task : IoTask) (line : Line) (what : Happened)

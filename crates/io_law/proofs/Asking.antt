@@ -1,23 +1,7 @@
 -- What of the requests of a script stands between two tasks: the next is to be asked as its line
 -- says, and its number is that of the node.
-use Rattle.std.proofs.Common.{◌≡◌, ◌<◌, ◌+◌, ◌%◌, ℕ, Bool, true, false, eqb, List, [], ◌∷◌, ◌++◌, All, length, map, Option, Some, None, refl, sym, ap, ◌∙◌, arith, if◌then◌else◌}
-use Rattle.std.specs.Prelude.{slice_set}
-use Rattle.std.specs.List.{AllByRecursion}
-use Rattle.std.proofs.Math.ListN.{get_or, get_or-map}
-use Rattle.std.proofs.Math.Seq.{map-set_same}
-use Rattle.std.proofs.lemmas.Bool.{eqb-true, eqb-false}
-use Rattle.std.proofs.lemmas.List.{length-set, get_or-set_same, get_or-set_other}
-use Rattle.std.proofs.lemmas.List.Elements.{All-cons, All-append, All-map}
-use Rattle.fabric_script.specs.declared.lines.Line.{Line}
-use Rattle.fabric_model.specs.Network.{Network, Item}
+use Rattle.io_law.proofs.Prelude.{◌≡◌, ◌<◌, ◌+◌, ◌%◌, ℕ, Bool, true, false, eqb, List, [], ◌∷◌, ◌++◌, All, length, map, Option, Some, None, refl, sym, ap, ◌∙◌, arith, if◌then◌else◌, slice_set, AllByRecursion, get_or, get_or-map, map-set_same, eqb-true, eqb-false, length-set, get_or-set_same, get_or-set_other, All-cons, All-append, All-map, Line, Network, Item, IoLine, Memory, NRead, NWrite, NWriteR, SWrite, Round, new_station, station_at, next_tid_of, memory_of, counted_on, stations_after, stations_met, IoTask, Carry, Ask, Settle, Turn, sends_io, tasks_of, stations_by, IoState, IsSentBy, IoRequest, io_request, io_request_of, IoAsking, counts_with, next_number_of, name_in_ask, AreSent}
 use Rattle.io_packets.specs.declared.io.Io.TheVariants as Ios
-use Rattle.io_script.specs.declared.lines.IoLine.{IoLine}
-use Rattle.io_script.specs.declared.lines.IoLine.TheVariants.{Memory, NRead, NWrite, NWriteR, SWrite, Round}
-use Rattle.io_rounds.specs.Stations.{new_station, station_at, next_tid_of, memory_of, counted_on, stations_after, stations_met}
-use Rattle.io_rounds.specs.Tasks.{IoTask, Carry, Ask, Settle, Turn, Reply, Fetch, Finish, sends_io, tasks_of, stations_by}
-use Rattle.io_rounds.specs.Going.{IoState}
-use Rattle.io_law.specs.Items.{IsSentBy}
-use Rattle.io_law.specs.Asks.{IoRequest, io_request, io_request_of, IoAsking, counts_with, next_number_of, name_in_ask, AreSent}
 
 -- ---- the number of the next request of a node
 
@@ -56,20 +40,12 @@ counted_tid stations at tid n within = by (eqb at n) refl
 pub begun_tid : (stations : List _) (line : IoLine) (n : ℕ)
     → next_tid_of (stations_by line stations) n ≡ next_tid_of stations n
 begun_tid stations (Memory node bytes) n = same_tid stations node _ n refl
-begun_tid stations (NRead node dest addr size) n = refl
-begun_tid stations (NWrite node dest addr load) n = refl
-begun_tid stations (NWriteR node dest addr load) n = refl
-begun_tid stations (SWrite node dest addr load) n = refl
-begun_tid stations Round n = refl
+begun_tid stations _ n = refl
 
 pub begun_long : (stations : List _) (line : IoLine)
     → length (stations_by line stations) ≡ length stations
 begun_long stations (Memory node bytes) = length-set stations node _
-begun_long stations (NRead node dest addr size) = refl
-begun_long stations (NWrite node dest addr load) = refl
-begun_long stations (NWriteR node dest addr load) = refl
-begun_long stations (SWrite node dest addr load) = refl
-begun_long stations Round = refl
+begun_long stations _ = refl
 
 pub met_tid : (stations : List _) (node : ℕ) (packet : List ℕ) (n : ℕ)
     → next_tid_of (stations_met stations node packet) n ≡ next_tid_of stations n
@@ -100,8 +76,7 @@ pub counted_numbers : (s t : IoState) (counts : ℕ → ℕ) (at : ℕ) (tid : O
     → t.stations ≡ counted_on s.stations at tid → at < length s.stations
     → TidIs (next_number_of counts at) tid → NumbersAre s counts
     → NumbersAre t (counts_with at tid counts)
-counted_numbers s t counts at None same within is all n =
-    ap (λ l. next_tid_of l n) same ∙ all n
+counted_numbers s t counts at None same within is all n = ap (λ l. next_tid_of l n) same ∙ all n
 counted_numbers s t counts at (Some tid) same within is all n =
     ap (λ l. next_tid_of l n) same
     ∙ (counted_tid s.stations at tid n within ∙ by (eqb at n) refl)
@@ -109,8 +84,7 @@ counted_numbers s t counts at (Some tid) same within is all n =
     by : (b : Bool) → eqb at n ≡ b
         → (if b then (tid + 1) % 256 else next_tid_of s.stations n)
         ≡ (if b then counts n + 1 else counts n) % 256
-    by true eq =
-        one_more (counts n) tid (is ∙ ap (λ m. counts m % 256) (eqb-true at n eq))
+    by true eq = one_more (counts n) tid (is ∙ ap (λ m. counts m % 256) (eqb-true at n eq))
     by false other = all n
 
 -- ---- what is to be done
@@ -156,12 +130,7 @@ NextIs counts count (Some request) =
 pub rest_none : (tasks : List IoTask) → AllByRecursion IsNoAsk tasks → head_asks tasks ≡ None
 rest_none [] all = refl
 rest_none (Ask node tid line ∷ rest) all = absurd all.0
-rest_none (Carry line ∷ rest) all = refl
-rest_none (Settle ∷ rest) all = refl
-rest_none (Turn node ∷ rest) all = refl
-rest_none (Reply node line ∷ rest) all = refl
-rest_none (Fetch node ∷ rest) all = refl
-rest_none (Finish ∷ rest) all = refl
+rest_none (_ ∷ rest) all = refl
 
 pub rest_on : (tasks : List IoTask) → AllByRecursion IsNoAsk tasks → RestAsksNot tasks
 rest_on [] all = tt
@@ -187,55 +156,38 @@ module _ (endpoints : List ℕ) (s : IoState) (counts : ℕ → ℕ) (rest : Lis
   line_next (NRead node dest addr size) numbers all =
       ap (λ (n : ℕ). Some (io_request node (Some n)
       (sends_io node 1 dest (Ios.NRead n addr size)))) (numbers node)
-  line_next (NWrite node dest addr load) numbers all = refl
   line_next (NWriteR node dest addr load) numbers all =
       ap (λ (n : ℕ). Some (io_request node (Some n)
       (sends_io node 1 dest (Ios.NWriteR n addr load)))) (numbers node)
-  line_next (SWrite node dest addr load) numbers all = refl
-  line_next Round numbers all = refl
+  line_next _ numbers all = refl
 
   pub line_rest : (line : IoLine) → AllByRecursion IsNoAsk rest
       → RestAsksNot (tasks_of endpoints s.stations line ++ rest)
   line_rest (Memory node bytes) all = rest_on rest all
-  line_rest (NRead node dest addr size) all = all
-  line_rest (NWrite node dest addr load) all = all
-  line_rest (NWriteR node dest addr load) all = all
-  line_rest (SWrite node dest addr load) all = all
   line_rest Round all = turns_ask_not endpoints rest all
+  line_rest _ all = all
 
   pub line_carries : (line : IoLine)
       → carried (tasks_of endpoints s.stations line ++ rest) ≡ carried rest
-  line_carries (Memory node bytes) = refl
-  line_carries (NRead node dest addr size) = refl
-  line_carries (NWrite node dest addr load) = refl
-  line_carries (NWriteR node dest addr load) = refl
-  line_carries (SWrite node dest addr load) = refl
   line_carries Round = turns_carry_none endpoints rest
+  line_carries _ = refl
 
   pub line_within : (count : ℕ) (line : IoLine) → All (CarriesWithin count) rest
       → All (CarriesWithin count) (tasks_of endpoints s.stations line ++ rest)
   line_within count (Memory node bytes) all = all
-  line_within count (NRead node dest addr size) all =
-      All-cons (CarriesWithin count) _ rest tt all
-  line_within count (NWrite node dest addr load) all =
-      All-cons (CarriesWithin count) _ rest tt all
-  line_within count (NWriteR node dest addr load) all =
-      All-cons (CarriesWithin count) _ rest tt all
-  line_within count (SWrite node dest addr load) all =
-      All-cons (CarriesWithin count) _ rest tt all
   line_within count Round all =
       All-cons (CarriesWithin count) Settle (map Turn endpoints ++ rest) tt
       (All-append (CarriesWithin count) (map Turn endpoints) rest
       (All-map (CarriesWithin count) Turn endpoints (λ i d within. tt)) all)
+  line_within count _ all = All-cons (CarriesWithin count) _ rest tt all
 
 pub line_due : (counts : ℕ → ℕ) (count : ℕ) (line : IoLine) → IsAskOf count line
     → NextIs counts count (io_request_of (next_number_of counts) line)
-line_due counts count (Memory node bytes) within = tt
 line_due counts count (NRead node dest addr size) within = (within, refl)
 line_due counts count (NWrite node dest addr load) within = (within, tt)
 line_due counts count (NWriteR node dest addr load) within = (within, refl)
 line_due counts count (SWrite node dest addr load) within = (within, tt)
-line_due counts count Round within = tt
+line_due counts count _ within = tt
 
 -- ---- what stands between two tasks
 

@@ -1,32 +1,5 @@
 -- In every run what is asked is what the lines of the script ask for, in order.
-use Rattle.std.proofs.Common.{codes, ◌≡◌, ℕ, zero, suc, List, [], ◌∷◌, ◌++◌, length, map, replicate, Option, Some, None, refl, sym, ap, ◌∙◌, subst, append-nil, append_assoc}
-use Rattle.std.specs.List.{AllByRecursion}
-use Rattle.std.proofs.Math.ListN.{get_or}
-use Rattle.std.proofs.lemmas.List.{length-replicate}
-use Rattle.std.proofs.lemmas.List.Elements.{All-map, All-push}
-use Rattle.fabric_script.specs.declared.lines.Line.{Line}
-use Rattle.fabric_script.specs.declared.lines.Numbered.{Numbered}
-use Rattle.fabric_model.specs.Network.{Network, Item}
-use Rattle.fabric_model.specs.Laws.History.{items_taken}
-use Rattle.fabric_model.proofs.Lists.{all_weaker}
-use Rattle.fabric_trace.specs.Blocks.{IsBlock}
-use Rattle.fabric_trace.specs.Fold.{seen}
-use Rattle.fabric_trace.specs.Known.{Seen}
-use Rattle.trace_lines.specs.Lines.{TraceLine, steps_of}
-use Rattle.fabric_trace.specs.Runs.{start, set_up_all, bare}
-use Rattle.fabric_trace.specs.SetUps.{IsSetUp}
-use Rattle.fabric_trace.proofs.SetUps.Starting.{legal}
-use Rattle.fabric_ports.specs.Events.{happened}
-use Rattle.io_script.specs.declared.lines.IoLine.{IoLine}
-use Rattle.io_script.specs.declared.lines.IoLine.TheVariants.{Memory, NRead, NWrite, NWriteR, SWrite, Round}
-use Rattle.io_script.specs.declared.lines.NumberedIo.{NumberedIo}
-use Rattle.io_rounds.specs.Stations.{new_station, next_tid_of, kept_of_node}
-use Rattle.io_rounds.specs.Tasks.{IoTask, Carry, Ask, Settle, Turn, Reply, Fetch, Finish, task_event}
-use Rattle.io_rounds.specs.Going.{IoState, telling, left_to_do, with_event, begun_line, turned_to, endpoints_of, IoGoes, IoBegins, IoTurns, IoActs, IoEnds, IoComes, Here, Further}
-use Rattle.io_rounds.specs.Drives.{IsIoFit, MayCarry, first_state}
-use Rattle.io_law.specs.Telling.{IoTold, ToldBegun, io_told, told_by, told_behind, and_told}
-use Rattle.io_law.specs.Items.{network_at, asked_behind, asked_by, io_asked, IsSentBy}
-use Rattle.io_law.specs.Asks.{IoAsking, nothing_asked, asking_by, asking_on, begun_in, lines_begun, ask_in, asks_told, AsksAreOfTheirLines}
+use Rattle.io_law.proofs.Prelude.{codes, ◌≡◌, ℕ, zero, suc, List, [], ◌∷◌, ◌++◌, length, map, replicate, Option, Some, None, refl, sym, ap, ◌∙◌, subst, append-nil, append_assoc, AllByRecursion, get_or, length-replicate, All-map, All-push, Line, Numbered, Network, Item, items_taken, all_weaker, IsBlock, seen, Seen, TraceLine, steps_of, start, set_up_all, bare, IsSetUp, legal, happened, IoLine, Memory, NRead, NWrite, NWriteR, SWrite, Round, NumberedIo, new_station, next_tid_of, kept_of_node, IoTask, Carry, Ask, Settle, Turn, Reply, Fetch, Finish, task_event, IoState, telling, left_to_do, with_event, begun_line, turned_to, endpoints_of, IoGoes, IoBegins, IoTurns, IoActs, IoEnds, IoComes, Here, Further, IsIoFit, MayCarry, first_state, IoTold, ToldBegun, io_told, told_by, told_behind, and_told, network_at, asked_behind, asked_by, io_asked, IsSentBy, IoAsking, nothing_asked, asking_by, asking_on, begun_in, lines_begun, ask_in, asks_told, AsksAreOfTheirLines}
 use Rattle.io_law.proofs.AskTasks.{asking_with, begun_with, asks_with, begins_asking, turns_asking, event_from, ends_asking}
 use Rattle.io_law.proofs.Asking.{IsNoAsk, RestAsksNot, head_asks, carried, IsAskOf, CarriesWithin, IsAsking, AskSends}
 use Rattle.io_law.proofs.Fit.{HeadFit, TasksFit, IsFit, fit_comes, first_fit}

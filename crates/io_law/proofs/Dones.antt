@@ -1,30 +1,6 @@
 -- Each `done` line is of the reply to a packet that was served before, and no two are of one.
-use Rattle.std.proofs.Common.{◌≡◌, ℕ, List, [], ◌∷◌, ◌++◌, length, map, Option, Some, refl, sym, ap, ap₂, ◌∙◌, subst, append_assoc, if◌then◌else◌}
-use Rattle.std.specs.Prelude.{slice_get}
-use Rattle.std.specs.List.{AllByRecursion}
-use Rattle.std.proofs.lemmas.Bool.{eq-eqb}
-use Rattle.std.proofs.lemmas.List.{map-append}
-use Rattle.rio_packets.specs.Fields.{ftype_of}
-use Rattle.fabric_script.specs.declared.lines.Line.{Line}
-use Rattle.fabric_script.specs.declared.lines.Numbered.{Numbered}
-use Rattle.fabric_model.specs.Network.{Item}
-use Rattle.fabric_model.specs.Laws.History.{taken_by, items_taken, gone}
-use Rattle.fabric_model.proofs.Lists.{all-append, all_weaker}
-use Rattle.fabric_trace.specs.Fold.{seen}
-use Rattle.trace_lines.specs.Lines.{steps_of}
-use Rattle.fabric_trace.specs.Runs.{start}
-use Rattle.fabric_ports.specs.Events.{happened}
-use Rattle.fabric_ports.specs.declared.answers.Happened.{Happened}
+use Rattle.io_law.proofs.Prelude.{◌≡◌, ℕ, List, [], ◌∷◌, ◌++◌, length, map, Option, Some, refl, sym, ap, ap₂, ◌∙◌, subst, append_assoc, if◌then◌else◌, slice_get, AllByRecursion, eq-eqb, map-append, ftype_of, Line, Numbered, Item, taken_by, items_taken, gone, all-append, all_weaker, seen, steps_of, start, happened, Happened, Done, NumberedIo, memory_of, met_by, IoTask, Carry, Ask, Settle, Turn, Reply, Fetch, Finish, IoState, IoGoes, IoBegins, IoTurns, IoActs, IoEnds, IoComes, Here, Further, IsIoFit, first_state, ToldCame, io_told, told_by, told_behind, asked_behind, replied_behind, came_behind, network_at, asked_by, replied_by, came_by, came, IoArrival, arrived_behind, arrived_by, io_arrived, IoSent, sent_behind, io_sent_by, sent_at}
 use Rattle.fabric_ports.specs.declared.answers.Happened.TheVariants as Answers
-use Rattle.io_memory.specs.declared.meeting.Met.TheVariants.{Done}
-use Rattle.io_script.specs.declared.lines.NumberedIo.{NumberedIo}
-use Rattle.io_rounds.specs.Stations.{memory_of, met_by}
-use Rattle.io_rounds.specs.Tasks.{IoTask, Carry, Ask, Settle, Turn, Reply, Fetch, Finish}
-use Rattle.io_rounds.specs.Going.{IoState, IoGoes, IoBegins, IoTurns, IoActs, IoEnds, IoComes, Here, Further}
-use Rattle.io_rounds.specs.Drives.{IsIoFit, first_state}
-use Rattle.io_law.specs.Telling.{ToldCame, io_told, told_by, told_behind}
-use Rattle.io_law.specs.Items.{asked_behind, replied_behind, came_behind, network_at, asked_by, replied_by, came_by, came}
-use Rattle.io_law.specs.Replies.{IoArrival, arrived_behind, arrived_by, io_arrived, IoSent, sent_behind, io_sent_by, sent_at}
 use Rattle.io_law.proofs.Fit.{IsFit, fit_comes}
 use Rattle.io_law.proofs.Items.{left_one}
 use Rattle.io_law.proofs.Places.{slice_get-append, slice_get-seam}
@@ -252,7 +228,6 @@ module _ {names : List (List ℕ)} {script : List Numbered} {io : List NumberedI
       → told_by goes ≡ Some (ToldCame node (Done tid status load))
       → DoneBy lines goes node tid status load
   done_by comes (IoBegins line rest is to) lines node tid status load same = absurd cc
-  done_by comes (IoTurns at rest is to) lines node tid status load same = absurd cc
   done_by {before} comes (IoActs task rest line block is event block_is sent to) lines node tid
       status load same =
       let what = happened line block in
@@ -280,4 +255,4 @@ module _ {names : List (List ℕ)} {script : List Numbered} {io : List NumberedI
         takes = ap (λ t. asked_behind t what asks ++ replied_behind t asks) task_is;
         met = ap (met_by (memory_of before.stations node)) now ∙ met;
       }
-  done_by comes (IoEnds rest is to) lines node tid status load same = absurd cc
+  done_by comes _ lines node tid status load same = absurd cc

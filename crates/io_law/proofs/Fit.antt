@@ -1,32 +1,9 @@
 -- In every state what is to be asked is a request and what is to be replied a response, and a node
 -- that replies or collects keeps no reply.
-use Rattle.std.proofs.Common.{◌≡◌, ◌<◌, ◌+◌, ◌⊎◌, inl, inr, ℕ, zero, suc, Bool, true, false, min, List, [], ◌∷◌, ◌++◌, length, map, replicate, Option, Some, None, refl, sym, ap, ◌∙◌, subst, arith, if◌then◌else◌}
-use Rattle.std.specs.Prelude.{slice_set, slice_range}
-use Rattle.std.specs.List.{AllByRecursion}
-use Rattle.std.proofs.Math.ListN.{get_or, get_or-map}
-use Rattle.std.proofs.Math.Seq.{map-set_same}
-use Rattle.std.proofs.lemmas.List.{length-set}
-use Rattle.rio_packets.specs.Fields.{prio_of}
-use Rattle.fabric_script.specs.declared.lines.Line.{Line}
-use Rattle.fabric_script.specs.declared.lines.Line.TheVariants.{Send}
-use Rattle.fabric_script.specs.declared.lines.Numbered.{Numbered}
-use Rattle.fabric_model.proofs.Lists.{all-append}
-use Rattle.fabric_ports.specs.Events.{happened}
-use Rattle.fabric_ports.specs.declared.answers.Happened.{Happened}
+use Rattle.io_law.proofs.Prelude.{◌≡◌, ◌<◌, ◌+◌, ◌⊎◌, inl, inr, ℕ, zero, suc, Bool, true, false, min, List, [], ◌∷◌, ◌++◌, length, map, replicate, Option, Some, None, refl, sym, ap, ◌∙◌, subst, arith, if◌then◌else◌, slice_set, slice_range, AllByRecursion, get_or, get_or-map, map-set_same, length-set, prio_of, Line, Send, Numbered, all-append, happened, Happened, Io, io_of, is_within, answer_to, IoLine, Memory, NRead, NWriteR, Round, NumberedIo, new_station, memory_of, kept_of_node, with_kept, counted_on, answer_by, answer_at_node, stations_after, stations_met, IoTask, Carry, Ask, Settle, Turn, Reply, Fetch, Finish, reply_line, tasks_of, stations_by, task_behind, IoState, left_to_do, with_event, first_of_turn, behind_event, endpoints_of, IoGoes, IoBegins, IoTurns, IoActs, IoEnds, IoComes, Here, Further, first_state, met_length}
 use Rattle.fabric_ports.specs.declared.answers.Happened.TheVariants as Answers
-use Rattle.io_packets.specs.declared.io.Io.{Io}
 use Rattle.io_packets.specs.declared.io.Io.TheVariants as Ios
-use Rattle.io_packets.specs.Reading.{io_of}
-use Rattle.io_packets.specs.Serving.{is_within, answer_to}
 use Rattle.io_packets.specs.Writing.{type_of}
-use Rattle.io_script.specs.declared.lines.IoLine.{IoLine}
-use Rattle.io_script.specs.declared.lines.IoLine.TheVariants.{Memory, NRead, NWrite, NWriteR, SWrite, Round}
-use Rattle.io_script.specs.declared.lines.NumberedIo.{NumberedIo}
-use Rattle.io_rounds.specs.Stations.{new_station, memory_of, kept_of_node, with_kept, counted_on, answer_by, answer_at_node, stations_after, stations_met}
-use Rattle.io_rounds.specs.Tasks.{IoTask, Carry, Ask, Settle, Turn, Reply, Fetch, Finish, reply_line, tasks_of, stations_by, task_behind}
-use Rattle.io_rounds.specs.Going.{IoState, left_to_do, with_event, first_of_turn, behind_event, endpoints_of, IoGoes, IoBegins, IoTurns, IoActs, IoEnds, IoComes, Here, Further}
-use Rattle.io_rounds.specs.Drives.{first_state}
-use Rattle.io_rounds.proofs.StateLaws.{met_length}
 use Rattle.io_law.proofs.Memories.{has_place}
 
 -- ---- what holds of a state
@@ -151,11 +128,7 @@ kept_with stations at kept fit all n = by (set_kept stations at _ n)
 pub begun_kept : (stations : List _) (line : IoLine) (n : ℕ)
     → kept_of_node (stations_by line stations) n ≡ kept_of_node stations n
 begun_kept stations (Memory node bytes) n = same_kept stations node _ n refl
-begun_kept stations (NRead node dest addr size) n = refl
-begun_kept stations (NWrite node dest addr load) n = refl
-begun_kept stations (NWriteR node dest addr load) n = refl
-begun_kept stations (SWrite node dest addr load) n = refl
-begun_kept stations Round n = refl
+begun_kept stations _ n = refl
 
 pub counted_kept : (stations : List _) (node : ℕ) (tid : Option ℕ) (n : ℕ)
     → kept_of_node (counted_on stations node tid) n ≡ kept_of_node stations n
@@ -176,19 +149,13 @@ met_kept stations node packet n = by (memory_of stations node)
 pub line_fit : (endpoints : List ℕ) (stations : List _) (line : IoLine)
     → AllByRecursion RestFit (tasks_of endpoints stations line)
 line_fit endpoints stations (Memory node bytes) = tt
-line_fit endpoints stations (NRead node dest addr size) =
-    ((refl, refl, omega arith, λ same. absurd cc, λ same. absurd cc), tt)
-line_fit endpoints stations (NWrite node dest addr load) =
-    ((refl, refl, omega arith, λ same. absurd cc, λ same. absurd cc), tt)
-line_fit endpoints stations (NWriteR node dest addr load) =
-    ((refl, refl, omega arith, λ same. absurd cc, λ same. absurd cc), tt)
-line_fit endpoints stations (SWrite node dest addr load) =
-    ((refl, refl, omega arith, λ same. absurd cc, λ same. absurd cc), tt)
 line_fit endpoints stations Round = (tt, turns endpoints)
   where
     turns : (nodes : List ℕ) → AllByRecursion RestFit (map Turn nodes)
     turns [] = tt
     turns (node ∷ nodes) = (tt, turns nodes)
+line_fit endpoints stations _ =
+    ((refl, refl, omega arith, λ same. absurd cc, λ same. absurd cc), tt)
 
 -- an answer is a response
 pub answer_type : (memory : List ℕ) (io answer : Io) → answer_to memory io ≡ Some answer
@@ -213,11 +180,7 @@ answer_type memory (Ios.BadRead tid) answer is =
     let same : Ios.Reply 7 tid None ≡ answer = cc in sym (ap type_of same)
 answer_type memory (Ios.BadWriteR tid) answer is =
     let same : Ios.Reply 7 tid None ≡ answer = cc in sym (ap type_of same)
-answer_type memory (Ios.NWrite addr load) answer is = absurd cc
-answer_type memory (Ios.SWrite addr load) answer is = absurd cc
-answer_type memory (Ios.Reply status tid load) answer is = absurd cc
-answer_type memory Ios.BadWrite answer is = absurd cc
-answer_type memory Ios.Other answer is = absurd cc
+answer_type memory _ answer is = absurd cc
 
 pub reply_prio : (prio : ℕ) → min (prio + 1) 3 < 4
 reply_prio prio = omega arith

@@ -1,34 +1,8 @@
 -- Each line of a packet is of one, and no packet has two of a kind.
-use Rattle.std.proofs.Common.{◌≡◌, ◌≤◌, ◌+◌, ℕ, Bool, true, false, List, [], ◌∷◌, ◌++◌, length, map, Option, Some, None, refl, sym, ap, ◌∙◌, subst, arith, if◌then◌else◌}
-use Rattle.std.proofs.lemmas.List.{length-append, length-map}
-use Rattle.rio_packets.specs.Fields.{prio_of}
-use Rattle.switch_core.specs.EndpointSteps.{collected}
-use Rattle.switch_core.specs.declared.endpoint.Collected.{Collected}
+use Rattle.io_law.proofs.Prelude.{◌≡◌, ◌≤◌, ◌+◌, ℕ, Bool, true, false, List, [], ◌∷◌, ◌++◌, length, map, Option, Some, None, refl, sym, ap, ◌∙◌, subst, arith, if◌then◌else◌, length-append, length-map, prio_of, collected, Collected, Line, Numbered, Network, Item, port_of, first_packet, room_out, Take, Step, AtNode, only_first, LegalFrom, EndLeft, gathered, taken_by, ended_by, items_taken, gone, how_often, how_often-append, SendsBody, IsBlock, seen, Seen, NoRoom, TraceLine, Stepped, Lacked, steps_of, start, set_up_all, bare, face_in, collect_lines, IsSetUp, lawful, happened, answer_taken, answer_collected, Happened, IoTask, Carry, Ask, Settle, Turn, Reply, Fetch, Finish, IoState, IoGoes, IoBegins, IoTurns, IoActs, IoEnds, IoComes, Here, Further, IoTold, io_told, told_by, told_behind, and_told, asked_behind, came_behind, network_at, asked_by, came_by, io_asked, came, asked_line, came_line, lines_in, PacketsHaveOneLine}
 use Rattle.switch_core.specs.declared.endpoint.Collected.TheVariants as Collects
-use Rattle.fabric_script.specs.declared.lines.Line.{Line}
 use Rattle.fabric_script.specs.declared.lines.Line.TheVariants.{Send, Read, Write, Collect, Send16, Read16, Write16}
-use Rattle.fabric_script.specs.declared.lines.Numbered.{Numbered}
-use Rattle.fabric_model.specs.Network.{Network, Item, port_of, first_packet, room_out}
-use Rattle.fabric_model.specs.Steps.{Take, Step, AtNode, only_first, LegalFrom}
-use Rattle.fabric_model.specs.Laws.History.{EndLeft, gathered, taken_by, ended_by, items_taken, gone}
-use Rattle.fabric_model.specs.Laws.Holding.{how_often}
-use Rattle.fabric_model.proofs.Holding.{how_often-append}
-use Rattle.fabric_trace.specs.Blocks.{SendsBody, IsBlock}
-use Rattle.fabric_trace.specs.Fold.{seen}
-use Rattle.fabric_trace.specs.Known.{Seen}
-use Rattle.trace_lines.specs.Lines.{Full as NoRoom, TraceLine, Stepped, Lacked, steps_of}
-use Rattle.fabric_trace.specs.Runs.{start, set_up_all, bare}
-use Rattle.fabric_trace.specs.Served.{face_in, collect_lines}
-use Rattle.fabric_trace.specs.SetUps.{IsSetUp}
-use Rattle.fabric_trace.proofs.SetUps.Starting.{lawful}
-use Rattle.fabric_ports.specs.Events.{happened, answer_taken, answer_collected}
-use Rattle.fabric_ports.specs.declared.answers.Happened.{Happened}
 use Rattle.fabric_ports.specs.declared.answers.Happened.TheVariants as Answers
-use Rattle.io_rounds.specs.Tasks.{IoTask, Carry, Ask, Settle, Turn, Reply, Fetch, Finish}
-use Rattle.io_rounds.specs.Going.{IoState, IoGoes, IoBegins, IoTurns, IoActs, IoEnds, IoComes, Here, Further}
-use Rattle.io_law.specs.Telling.{IoTold, io_told, told_by, told_behind, and_told}
-use Rattle.io_law.specs.Items.{asked_behind, came_behind, network_at, asked_by, came_by, io_asked, came, asked_line, came_line, lines_in}
-use Rattle.io_law.specs.Laws.{PacketsHaveOneLine}
 use Rattle.io_law.proofs.Numbers.{taken_once}
 use Rattle.io_law.proofs.Tracing.{added, IsSentTrace, event_legal, sent_comes, fit_set_up, gathered_goes}
 

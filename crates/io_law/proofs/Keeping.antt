@@ -1,25 +1,6 @@
 -- In every run each node has the memory that the lines told leave there.
-use Rattle.std.proofs.Common.{◌≡◌, ◌<◌, ℕ, zero, suc, List, [], ◌∷◌, ◌++◌, All, length, map, replicate, Option, Some, None, refl, sym, ap, ◌∙◌, subst}
-use Rattle.std.proofs.Math.ListN.{get_or}
-use Rattle.std.proofs.lemmas.List.{length-set, length-replicate}
-use Rattle.std.proofs.lemmas.List.Elements.{All-cons, All-head, All-tail, All-append, All-map, All-push}
-use Rattle.fabric_script.specs.declared.lines.Numbered.{Numbered}
-use Rattle.fabric_model.specs.Network.{Network}
-use Rattle.fabric_trace.specs.Runs.{start}
-use Rattle.fabric_ports.specs.Events.{happened}
-use Rattle.fabric_ports.specs.declared.answers.Happened.{Happened}
+use Rattle.io_law.proofs.Prelude.{◌≡◌, ◌<◌, ℕ, zero, suc, List, [], ◌∷◌, ◌++◌, All, length, map, replicate, Option, Some, None, refl, sym, ap, ◌∙◌, subst, get_or, length-set, length-replicate, All-cons, All-head, All-tail, All-append, All-map, All-push, Numbered, Network, start, happened, Happened, Io, IoLine, Memory, NRead, NWrite, NWriteR, SWrite, Round, NumberedIo, new_station, memory_of, kept_of_node, answer_at_node, IoTask, Carry, Ask, Settle, Turn, Reply, Fetch, Finish, tasks_of, stations_by, task_behind, IoState, left_to_do, with_event, first_of_turn, behind_event, endpoints_of, IoGoes, IoBegins, IoTurns, IoActs, IoEnds, IoComes, Here, Further, IsIoFit, MayCarry, first_state, met_length, IoTold, ToldBegun, ToldOver, io_told, told_by, told_behind, and_told, memory_by, memory_on, memory_left, MemoriesAreTold}
 use Rattle.fabric_ports.specs.declared.answers.Happened.TheVariants as Answers
-use Rattle.io_packets.specs.declared.io.Io.{Io}
-use Rattle.io_script.specs.declared.lines.IoLine.{IoLine}
-use Rattle.io_script.specs.declared.lines.IoLine.TheVariants.{Memory, NRead, NWrite, NWriteR, SWrite, Round}
-use Rattle.io_script.specs.declared.lines.NumberedIo.{NumberedIo}
-use Rattle.io_rounds.specs.Stations.{new_station, memory_of, kept_of_node, answer_at_node}
-use Rattle.io_rounds.specs.Tasks.{IoTask, Carry, Ask, Settle, Turn, Reply, Fetch, Finish, tasks_of, stations_by, task_behind}
-use Rattle.io_rounds.specs.Going.{IoState, left_to_do, with_event, first_of_turn, behind_event, endpoints_of, IoGoes, IoBegins, IoTurns, IoActs, IoEnds, IoComes, Here, Further}
-use Rattle.io_rounds.specs.Drives.{IsIoFit, MayCarry, first_state}
-use Rattle.io_rounds.proofs.StateLaws.{met_length}
-use Rattle.io_law.specs.Telling.{IoTold, ToldBegun, ToldOver, io_told, told_by, told_behind, and_told, memory_by, memory_on, memory_left}
-use Rattle.io_law.specs.Laws.{MemoriesAreTold}
 use Rattle.io_law.proofs.Memories.{same_memory, put_memory, memory_came}
 
 -- ---- what is to be done names nodes that are kept
@@ -133,8 +114,7 @@ event_memory names Settle what s n = refl
 event_memory names (Turn node) what s n = refl
 event_memory names (Reply node line) Answers.Took s n = refl
 event_memory names (Reply node line) _ s n = same_memory s.stations node _ n refl
-event_memory names (Fetch node) (Answers.Left packet) s n =
-    memory_came s.stations node packet n
+event_memory names (Fetch node) (Answers.Left packet) s n = memory_came s.stations node packet n
 event_memory names (Fetch node) Answers.Answered s n = refl
 event_memory names (Fetch node) _ s n = refl
 event_memory names Finish what s n = refl
@@ -252,5 +232,4 @@ fit_keeps names script io s comes fit =
     behind_all (length names) (at_first names script io fit) comes
 
 pub memories_told : MemoriesAreTold
-memories_told names script io s comes node fit =
-    (fit_keeps names script io s comes fit).same node
+memories_told names script io s comes node fit = (fit_keeps names script io s comes fit).same node

@@ -1,3 +1,4 @@
+mod Prelude
 pub mod Texts
 pub mod Memories
 pub mod Keeping

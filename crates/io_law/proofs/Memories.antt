@@ -1,18 +1,5 @@
 -- What is kept as the memory of a node is what the lines told leave there.
-use Rattle.std.proofs.Common.{◌≡◌, ◌<◌, ℕ, zero, suc, Bool, true, false, eqb, List, [], ◌∷◌, length, map, Option, Some, None, refl, sym, ap, ◌∙◌, arith, if◌then◌else◌}
-use Rattle.std.specs.Prelude.{slice_set}
-use Rattle.std.proofs.Math.ListN.{get_or, get_or-map}
-use Rattle.std.proofs.Math.Seq.{map-set_same}
-use Rattle.std.proofs.lemmas.Bool.{eqb-true, eqb-false}
-use Rattle.std.proofs.lemmas.List.{get_or-set_same, get_or-set_other}
-use Rattle.rio_packets.specs.Fields.{ftype_of}
-use Rattle.io_packets.specs.Reading.{io_of}
-use Rattle.io_packets.specs.Serving.{memory_put, memory_after}
-use Rattle.io_memory.specs.declared.meeting.Met.TheVariants.{Written, Failed}
-use Rattle.io_memory.specs.Meeting.{met_of, memory_held}
-use Rattle.io_memory.proofs.MeetLaws.{after_held}
-use Rattle.io_rounds.specs.Stations.{new_station, station_at, memory_of, with_memory, met_by, met_at_node, stations_after, stations_met}
-use Rattle.io_law.specs.Telling.{memory_behind}
+use Rattle.io_law.proofs.Prelude.{◌≡◌, ◌<◌, ℕ, zero, suc, Bool, true, false, eqb, List, [], ◌∷◌, length, map, Option, Some, None, refl, sym, ap, ◌∙◌, arith, if◌then◌else◌, slice_set, get_or, get_or-map, map-set_same, eqb-true, eqb-false, get_or-set_same, get_or-set_other, ftype_of, io_of, memory_put, memory_after, Written, Failed, met_of, memory_held, after_held, new_station, station_at, memory_of, with_memory, met_by, met_at_node, stations_after, stations_met, memory_behind}
 
 -- ---- a packet at a memory
 

@@ -1,21 +1,12 @@
 -- In a run of switches and links nothing happens at a node, and where a node collects it takes
 -- nothing.
-use Rattle.std.proofs.Common.{◌≡◌, ℕ, zero, suc, List, [], ◌∷◌, ◌++◌, Option, Some, None, sym, subst}
-use Rattle.maint_registers.specs.Devices.{Registers, is_switch}
+use Rattle.io_law.proofs.Prelude.{◌≡◌, ℕ, zero, suc, List, [], ◌∷◌, ◌++◌, Option, Some, None, sym, subst, Registers, is_switch, Collected, PortRef, NodeStep, Takes, Leave, Linked, AtNode, ByDevice, IsSettle, seen, UndetectedAt, Seen, link_at, TraceLine, Begun, Stepped, Signed, Lacked, Ended, Undetected, collect_lines}
 use Rattle.link_watch.specs.declared.note.Note.{Note}
 use Rattle.link_watch.specs.declared.note.Note.TheVariants as Notes
 use Rattle.link_machine.specs.Acts.{At, acts_notes}
-use Rattle.switch_core.specs.declared.endpoint.Collected.{Collected}
 use Rattle.switch_core.specs.declared.endpoint.Collected.TheVariants as Collects
-use Rattle.fabric_script.specs.declared.ports.PortRef.{PortRef}
-use Rattle.fabric_model.specs.Steps.{NodeStep, Take as Takes, Leave, Linked, AtNode, ByDevice}
 use Rattle.trace_lines.specs.Notes.{lines_of}
-use Rattle.fabric_trace.specs.Blocks.{IsSettle}
-use Rattle.fabric_trace.specs.Fold.{seen}
-use Rattle.fabric_trace.specs.Known.{UndetectedAt, Seen, link_at}
-use Rattle.trace_lines.specs.Lines.{TraceLine, Begun, Stepped, Signed, Lacked, Ended, Undetected}
 use Rattle.fabric_trace.specs.Rounds.{Follows, NamesNothing, Joined, SettleAll, ServesAll, ServeRests, ServeGoes, ServeNodes, Round, Rounds}
-use Rattle.fabric_trace.specs.Served.{collect_lines}
 use Rattle.fabric_trace.proofs.Rounds.Blocks.{by_test}
 
 -- the steps at nodes among these lines are such
@@ -125,6 +116,4 @@ module _ (Fits : NodeStep → Type 0) where
 
 pub collect_none : (node : ℕ) (what : Collected) → NoTakes (collect_lines node what)
 collect_none node (Collects.Left packet) = (tt, tt)
-collect_none node (Collects.Answered request response) = tt
-collect_none node Collects.Empty = tt
-collect_none node Collects.Full = tt
+collect_none node _ = tt

@@ -1,13 +1,5 @@
 -- No two packets that are taken have one number.
-use Rattle.std.proofs.Common.{◌≡◌, ◌≤◌, ◌<◌, ◌+◌, ℕ, Bool, true, false, eqb, List, [], ◌∷◌, ◌++◌, Option, Some, None, refl, ap, arith, ◌⊎◌, inl, inr, if◌then◌else◌}
-use Rattle.std.proofs.lemmas.Bool.{eqb-true}
-use Rattle.rio_packets.specs.Fields.{prio_of}
-use Rattle.fabric_script.specs.declared.ports.PortRef.{PortRef}
-use Rattle.fabric_model.specs.Network.{Network, Item, port_of, peer_in}
-use Rattle.fabric_model.specs.Steps.{Hold, Free, Take as Takes, Leave, Move, Drop, Answer, Step, Linked, AtNode, ByDevice, item_of, after, after_hold}
-use Rattle.fabric_model.specs.Laws.History.{taken_by, items_taken}
-use Rattle.fabric_model.specs.Laws.Holding.{how_often}
-use Rattle.fabric_model.proofs.Holding.{how_often-append}
+use Rattle.io_law.proofs.Prelude.{◌≡◌, ◌≤◌, ◌<◌, ◌+◌, ℕ, Bool, true, false, eqb, List, [], ◌∷◌, ◌++◌, Option, Some, None, refl, ap, arith, ◌⊎◌, inl, inr, if◌then◌else◌, eqb-true, prio_of, PortRef, Network, Item, port_of, peer_in, Hold, Free, Takes, Leave, Move, Drop, Answer, Step, Linked, AtNode, ByDevice, item_of, after, after_hold, taken_by, items_taken, how_often, how_often-append}
 
 pub record GivesOne (net : Network) (step : Step) : Type 0 where
   pub item : Item

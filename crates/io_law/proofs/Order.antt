@@ -1,22 +1,10 @@
 -- Where nothing is answered, of two packets of one course the one that was taken first leaves
 -- first.
-use Rattle.std.proofs.Common.{◌≡◌, ◌≤◌, ◌<◌, ℕ, false, List, [], ◌∷◌, ◌++◌, length, Some, refl, sym, ap, ◌∙◌, subst, arith, append_assoc}
-use Rattle.std.specs.Prelude.{slice_get}
-use Rattle.std.specs.List.{AllByRecursion}
-use Rattle.rio_packets.specs.Fields.{prio_of, dest_of}
-use Rattle.fabric_model.specs.Network.{Network, Item, port_of}
-use Rattle.fabric_model.specs.Steps.{Take as Takes, Leave, Move, Drop, Answer, Step, Linked, AtNode, ByDevice, only_first, after, after_all, LegalFrom}
-use Rattle.fabric_model.specs.Laws.Flows.{SameCourse}
-use Rattle.fabric_model.specs.Laws.History.{IsEmptyNetwork, EndLeft, EndAnswered, taken_by, ended_by, items_taken, items_ended, gone, WasTaken}
-use Rattle.fabric_model.specs.Laws.Holding.{ReceivedAt, how_often}
+use Rattle.io_law.proofs.Prelude.{◌≡◌, ◌≤◌, ◌<◌, ℕ, false, List, [], ◌∷◌, ◌++◌, length, Some, refl, sym, ap, ◌∙◌, subst, arith, append_assoc, slice_get, AllByRecursion, prio_of, dest_of, Network, Item, port_of, Takes, Leave, Move, Drop, Answer, Step, Linked, AtNode, ByDevice, only_first, after, after_all, LegalFrom, SameCourse, IsEmptyNetwork, EndLeft, EndAnswered, taken_by, ended_by, items_taken, items_ended, gone, WasTaken, ReceivedAt, how_often, is_answer, how_often-append, holding_exactly, all-parts, ComesBefore}
 use Rattle.fabric_model.specs.Laws.Proper.{AreProper}
-use Rattle.fabric_model.specs.Laws.Tables.{is_answer}
 use Rattle.fabric_model.proofs.Flows.{in_order_of_course}
-use Rattle.fabric_model.proofs.Holding.{how_often-append, holding_exactly}
 use Rattle.fabric_model.proofs.Joining.{legal_parts}
-use Rattle.fabric_model.proofs.Lists.{all-parts}
 use Rattle.fabric_model.proofs.Room.{at_most_first}
-use Rattle.io_law.specs.Laws.{ComesBefore}
 use Rattle.io_law.proofs.Places.{slice_get-append, slice_get-front, get_below, find_number, find_step}
 use Rattle.io_law.proofs.Plain.{NoAnswers, routes_stand}
 use Rattle.io_law.proofs.Tracing.{gathered-append}
@@ -62,8 +50,7 @@ leaver_taken start before net (ByDevice (Answer p packet response)) z empty lega
 none_answered : (net : Network) (steps : List Step) → NoAnswers steps
     → items_ended net steps EndAnswered ≡ []
 none_answered net [] none = refl
-none_answered net (Linked step ∷ steps) none =
-    none_answered (after net (Linked step)) steps none.1
+none_answered net (Linked step ∷ steps) none = none_answered (after net (Linked step)) steps none.1
 none_answered net (AtNode (Takes n packet) ∷ steps) none =
     none_answered (after net (AtNode (Takes n packet))) steps none.1
 none_answered net (AtNode (Leave n packet) ∷ steps) none =

@@ -1,32 +1,7 @@
 -- What a node served and has not replied to yet is at most one packet: its reply is the next task,
 -- or is kept.
-use Rattle.std.proofs.Common.{◌≡◌, ◌<◌, ℕ, Bool, true, false, eqb, List, [], ◌∷◌, ◌++◌, length, map, Option, Some, None, refl, sym, ap, ap₂, ◌∙◌, subst, arith, append-nil, append_assoc, if◌then◌else◌}
-use Rattle.std.specs.List.{AllByRecursion}
-use Rattle.std.proofs.lemmas.Bool.{eqb-true, eqb-false}
-use Rattle.std.proofs.lemmas.List.{map-append, get_or-set_same, get_or-set_other}
-use Rattle.rio_packets.specs.Fields.{prio_of}
-use Rattle.fabric_script.specs.declared.lines.Line.{Line}
-use Rattle.fabric_script.specs.declared.lines.Line.TheVariants.{Send}
-use Rattle.fabric_script.specs.declared.lines.Numbered.{Numbered}
-use Rattle.fabric_model.specs.Network.{Item, port_of, room_out}
-use Rattle.fabric_model.specs.Steps.{Take, AtNode}
-use Rattle.fabric_model.proofs.Lists.{all-append}
-use Rattle.fabric_model.specs.Laws.History.{items_taken, gone}
-use Rattle.fabric_trace.specs.Blocks.{IsBlock}
-use Rattle.fabric_trace.specs.Fold.{seen}
-use Rattle.fabric_trace.specs.Known.{Seen}
-use Rattle.trace_lines.specs.Lines.{Full as NoRoom, TraceLine, Stepped, Lacked, steps_of}
-use Rattle.fabric_trace.specs.Runs.{start, set_up_all, bare}
-use Rattle.fabric_trace.specs.SetUps.{IsSetUp}
-use Rattle.fabric_ports.specs.Events.{happened}
-use Rattle.fabric_ports.specs.declared.answers.Happened.{Happened}
+use Rattle.io_law.proofs.Prelude.{◌≡◌, ◌<◌, ℕ, Bool, true, false, eqb, List, [], ◌∷◌, ◌++◌, length, map, Option, Some, None, refl, sym, ap, ap₂, ◌∙◌, subst, arith, append-nil, append_assoc, if◌then◌else◌, AllByRecursion, eqb-true, eqb-false, map-append, get_or-set_same, get_or-set_other, prio_of, Line, Send, Numbered, Item, port_of, room_out, Take, AtNode, all-append, items_taken, gone, IsBlock, seen, Seen, NoRoom, TraceLine, Stepped, Lacked, steps_of, start, set_up_all, bare, IsSetUp, happened, Happened, Io, new_station, station_at, kept_of_node, with_kept, counted_on, answer_at_node, stations_met, IoTask, stations_by, Carry, Ask, Settle, Turn, Reply, Fetch, Finish, reply_line, task_event, task_behind, tasks_of, IoState, left_to_do, with_event, first_of_turn, behind_event, endpoints_of, IoGoes, IoBegins, IoTurns, IoActs, IoEnds, IoComes, Here, Further, io_told, IoSent, served_with, served_behind, served_by, io_served_at, reply_to, sent_behind, io_sent_by, sent_at}
 use Rattle.fabric_ports.specs.declared.answers.Happened.TheVariants as Answers
-use Rattle.io_packets.specs.declared.io.Io.{Io}
-use Rattle.io_rounds.specs.Stations.{new_station, station_at, kept_of_node, with_kept, counted_on, answer_at_node, stations_met}
-use Rattle.io_rounds.specs.Tasks.{IoTask, stations_by, Carry, Ask, Settle, Turn, Reply, Fetch, Finish, reply_line, task_event, task_behind, tasks_of}
-use Rattle.io_rounds.specs.Going.{IoState, left_to_do, with_event, first_of_turn, behind_event, endpoints_of, IoGoes, IoBegins, IoTurns, IoActs, IoEnds, IoComes, Here, Further}
-use Rattle.io_law.specs.Telling.{io_told}
-use Rattle.io_law.specs.Replies.{IoSent, served_with, served_behind, served_by, io_served_at, reply_to, sent_behind, io_sent_by, sent_at}
 use Rattle.io_law.proofs.Fit.{RestFit, HeadFit, TasksFit, IsFit, none_kept, line_fit, begun_kept, counted_kept, met_kept, fit_comes}
 use Rattle.io_law.proofs.Items.{left_one, took_one}
 use Rattle.io_law.proofs.Places.{same_line}
@@ -102,8 +77,7 @@ turn_pending node at stations kept rest is = by (eqb at node) refl kept is
 
     was : eqb at node ≡ true → (kept : Option Line) → kept_of_node stations at ≡ kept
         → kept_lines kept ≡ kept_lines (kept_of_node stations node)
-    was same kept is =
-        ap kept_lines (sym is ∙ ap (kept_of_node stations) (eqb-true at node same))
+    was same kept is = ap kept_lines (sym is ∙ ap (kept_of_node stations) (eqb-true at node same))
 
     stays : eqb at node ≡ false
         → kept_lines (kept_of_node (with_kept stations at None) node)
@@ -193,8 +167,7 @@ take_serves : (node before at : ℕ) (packet : List ℕ) (stations : List _)
     (map (reply_to node) (if eqb at node then served_with before answer items else [])) []
     (pending node (kept_of_node (stations_met stations at packet) node)
     (task_behind at packet answer ∷ rest))
-take_serves node before at packet stations answer rest items one none =
-    by (eqb at node) refl answer
+take_serves node before at packet stations answer rest items one none = by (eqb at node) refl answer
   where
     kept : kept_lines (kept_of_node (stations_met stations at packet) node)
         ≡ kept_lines (kept_of_node stations node)

@@ -1,14 +1,5 @@
 -- Places in lists, and the steps that give what stands there.
-use Rattle.std.proofs.Common.{◌≡◌, ◌≤◌, ◌<◌, ◌+◌, ℕ, zero, suc, Bool, true, false, eqb, List, [], ◌∷◌, ◌++◌, length, Some, refl, ap, ◌∙◌, subst, arith, if◌then◌else◌}
-use Rattle.std.specs.Prelude.{slice_get}
-use Rattle.std.specs.List.{AllByRecursion}
-use Rattle.std.proofs.lemmas.Bool.{eq-eqb, eqb-true}
-use Rattle.std.proofs.lemmas.List.{length-append}
-use Rattle.fabric_script.specs.declared.lines.Line.{Line}
-use Rattle.fabric_model.specs.Network.{Network, Item}
-use Rattle.fabric_model.specs.Steps.{Step, after, after_all}
-use Rattle.fabric_model.specs.Laws.History.{gathered}
-use Rattle.fabric_model.specs.Laws.Holding.{how_often}
+use Rattle.io_law.proofs.Prelude.{◌≡◌, ◌≤◌, ◌<◌, ◌+◌, ℕ, zero, suc, Bool, true, false, eqb, List, [], ◌∷◌, ◌++◌, length, Some, refl, ap, ◌∙◌, subst, arith, if◌then◌else◌, slice_get, AllByRecursion, eq-eqb, eqb-true, length-append, Line, Network, Item, Step, after, after_all, gathered, how_often}
 
 -- ---- places
 

@@ -1,22 +1,10 @@
 -- In a run no node takes a maintenance packet, so nothing is answered and no register changes.
-use Rattle.std.proofs.Common.{◌≡◌, ℕ, Bool, true, false, ◌&&◌, eqb, List, [], ◌∷◌, ◌++◌, map, Option, Some, None, refl, sym, ap, ◌∙◌, subst, if◌then◌else◌}
-use Rattle.std.specs.List.{AllByRecursion}
-use Rattle.std.specs.Prelude.{slice_get, option_map, option_and_then}
-use Rattle.rio_packets.specs.Fields.{prio_of, ftype_of, is_maintenance}
-use Rattle.std.proofs.lemmas.Bool.{ne_eqb}
-use Rattle.maint_registers.specs.Devices.{Registers}
+use Rattle.io_law.proofs.Prelude.{◌≡◌, ℕ, Bool, true, false, ◌&&◌, eqb, List, [], ◌∷◌, ◌++◌, map, Option, Some, None, refl, sym, ap, ◌∙◌, subst, if◌then◌else◌, AllByRecursion, slice_get, option_map, option_and_then, prio_of, ftype_of, is_maintenance, ne_eqb, Registers, PortRef, Item, Lanes, Network, same_port, port_of, peer_in, first_packet, with_lane, route_at, Hold, Free, Takes, Leave, Move, Drop, Answer, Step, Linked, AtNode, ByDevice, Needs, only_first, behind_first, moved_item, item_of, after_hold, without_first, after, LegalFrom, RoutesStand, IsEmptyNetwork, is_answer, all-append}
 use Rattle.maint_packets.specs.Answers.{request_answered}
 use Rattle.rio_packets.specs.Hops.{lowered}
 use Rattle.maint_packets.specs.Requests.{request_of}
 use Rattle.maint_packets.specs.Responses.{response_bytes}
-use Rattle.fabric_script.specs.declared.ports.PortRef.{PortRef}
-use Rattle.fabric_model.specs.Network.{Item, Lanes, Network, same_port, port_of, peer_in, first_packet, with_lane, route_at}
 use Rattle.fabric_model.specs.Serving.{response_at}
-use Rattle.fabric_model.specs.Steps.{Hold, Free, Take as Takes, Leave, Move, Drop, Answer, Step, Linked, AtNode, ByDevice, Needs, only_first, behind_first, moved_item, item_of, after_hold, without_first, after, LegalFrom}
-use Rattle.fabric_model.specs.Laws.Flows.{RoutesStand}
-use Rattle.fabric_model.specs.Laws.History.{IsEmptyNetwork}
-use Rattle.fabric_model.specs.Laws.Tables.{is_answer}
-use Rattle.fabric_model.proofs.Lists.{all-append}
 use Rattle.fabric_model.proofs.Tables.{registers_stay}
 
 -- ---- networks without maintenance packets

@@ -1,23 +1,8 @@
 -- The bytes of a read that is told stand in the memory that the lines before it leave.
-use Rattle.std.proofs.Common.{◌≡◌, ◌⊎◌, inl, inr, ℕ, zero, suc, ◌+◌, List, [], ◌∷◌, ◌++◌, length, take, Option, Some, None, refl, sym, ap, subst}
-use Rattle.std.specs.Prelude.{slice_get, slice_range}
-use Rattle.fabric_script.specs.declared.lines.Numbered.{Numbered}
-use Rattle.fabric_ports.specs.Events.{happened}
-use Rattle.fabric_ports.specs.declared.answers.Happened.{Happened}
+use Rattle.io_law.proofs.Prelude.{◌≡◌, ◌⊎◌, inl, inr, ℕ, zero, suc, ◌+◌, List, [], ◌∷◌, ◌++◌, length, take, Option, Some, None, refl, sym, ap, subst, slice_get, slice_range, Numbered, happened, Happened, ftype_of, Io, io_of, Read, met_without, reads_held, memory_of, met_by, IoTask, Carry, Ask, Settle, Turn, Reply, Fetch, Finish, IoState, IoGoes, IoBegins, IoTurns, IoActs, IoEnds, IoComes, Here, Further, IoTold, ToldCame, io_told, told_by, told_behind, and_told, memory_left, ReadsAreTold}
 use Rattle.fabric_ports.specs.declared.answers.Happened.TheVariants as Answers
-use Rattle.rio_packets.specs.Fields.{ftype_of}
-use Rattle.io_packets.specs.declared.io.Io.{Io}
 use Rattle.io_packets.specs.declared.io.Io.TheVariants as Ios
-use Rattle.io_packets.specs.Reading.{io_of}
 use Rattle.io_memory.specs.declared.meeting.Met.{Met}
-use Rattle.io_memory.specs.declared.meeting.Met.TheVariants.{Read}
-use Rattle.io_memory.specs.Meeting.{met_without}
-use Rattle.io_memory.proofs.MeetLaws.{reads_held}
-use Rattle.io_rounds.specs.Stations.{memory_of, met_by}
-use Rattle.io_rounds.specs.Tasks.{IoTask, Carry, Ask, Settle, Turn, Reply, Fetch, Finish}
-use Rattle.io_rounds.specs.Going.{IoState, IoGoes, IoBegins, IoTurns, IoActs, IoEnds, IoComes, Here, Further}
-use Rattle.io_law.specs.Telling.{IoTold, ToldCame, io_told, told_by, told_behind, and_told, memory_left}
-use Rattle.io_law.specs.Laws.{ReadsAreTold}
 use Rattle.io_law.proofs.Keeping.{Keeps, behind_all, at_first}
 
 -- these bytes stand in a memory
@@ -116,8 +101,7 @@ told_stands lines (Some line) k node addr load before last is =
         × (take k (lines ++ line ∷ []) ≡ take k lines))
         ⊎ ((line ≡ ToldCame node (Read addr load)) × (take k (lines ++ line ∷ []) ≡ lines))
         → Stand (memory_left node (take k (lines ++ line ∷ []))) addr load
-    by (inl one) =
-        subst (λ l. Stand (memory_left node l) addr load) (sym one.1) (before one.0)
+    by (inl one) = subst (λ l. Stand (memory_left node l) addr load) (sym one.1) (before one.0)
     by (inr one) =
         subst (λ l. Stand (memory_left node l) addr load) (sym one.1)
         (last (ap (λ l. Some l) one.0))

@@ -1,31 +1,6 @@
 -- What is served is among what came, and with what is answered a node asked.
-use Rattle.std.proofs.Common.{◌≡◌, ◌≤◌, ◌<◌, ℕ, Bool, true, false, eqb, List, [], ◌∷◌, ◌++◌, length, map, Option, Some, None, refl, sym, ap, ◌∙◌, subst, arith, append_assoc, if◌then◌else◌}
-use Rattle.std.specs.Prelude.{slice_get}
-use Rattle.std.specs.List.{AllByRecursion}
-use Rattle.std.proofs.lemmas.Bool.{eqb-true}
-use Rattle.std.proofs.lemmas.List.{map-append}
-use Rattle.rio_packets.specs.Fields.{ftype_of}
-use Rattle.fabric_script.specs.declared.lines.Numbered.{Numbered}
-use Rattle.fabric_model.specs.Network.{Item}
-use Rattle.fabric_model.specs.Laws.History.{taken_by, items_taken, gone, WasTaken}
-use Rattle.fabric_model.specs.Laws.Leaving.{IsAfterMoves, moves}
-use Rattle.fabric_model.specs.Laws.Holding.{how_often}
-use Rattle.fabric_model.proofs.Lists.{all-append, all_weaker}
-use Rattle.fabric_model.proofs.Holding.{how_often-append}
-use Rattle.trace_lines.specs.Lines.{steps_of}
-use Rattle.fabric_trace.specs.Runs.{start, set_up_all, bare}
-use Rattle.fabric_trace.proofs.SetUps.Starting.{lawful}
-use Rattle.fabric_ports.specs.Events.{happened}
-use Rattle.fabric_ports.specs.declared.answers.Happened.{Happened}
+use Rattle.io_law.proofs.Prelude.{◌≡◌, ◌≤◌, ◌<◌, ℕ, Bool, true, false, eqb, List, [], ◌∷◌, ◌++◌, length, map, Option, Some, None, refl, sym, ap, ◌∙◌, subst, arith, append_assoc, if◌then◌else◌, slice_get, AllByRecursion, eqb-true, map-append, ftype_of, Numbered, Item, taken_by, items_taken, gone, WasTaken, IsAfterMoves, moves, how_often, all-append, all_weaker, how_often-append, steps_of, start, set_up_all, bare, lawful, happened, Happened, Io, answer_at_node, IoTask, Carry, Ask, Settle, Turn, Reply, Fetch, Finish, IoState, IoGoes, IoBegins, IoTurns, IoActs, IoEnds, IoComes, Here, Further, io_told, came_behind, network_at, asked_by, replied_by, came_by, io_asked, came, IoArrival, arrived_behind, arrived_by, io_arrived, Served, served_with, served_behind, served_by, io_served_at, RequestsWereAsked}
 use Rattle.fabric_ports.specs.declared.answers.Happened.TheVariants as Answers
-use Rattle.io_packets.specs.declared.io.Io.{Io}
-use Rattle.io_rounds.specs.Stations.{answer_at_node}
-use Rattle.io_rounds.specs.Tasks.{IoTask, Carry, Ask, Settle, Turn, Reply, Fetch, Finish}
-use Rattle.io_rounds.specs.Going.{IoState, IoGoes, IoBegins, IoTurns, IoActs, IoEnds, IoComes, Here, Further}
-use Rattle.io_law.specs.Telling.{io_told}
-use Rattle.io_law.specs.Items.{came_behind, network_at, asked_by, replied_by, came_by, io_asked, came}
-use Rattle.io_law.specs.Replies.{IoArrival, arrived_behind, arrived_by, io_arrived, Served, served_with, served_behind, served_by, io_served_at}
-use Rattle.io_law.specs.Laws.{RequestsWereAsked}
 use Rattle.io_law.proofs.Arriving.{stays_same}
 use Rattle.io_law.proofs.Fit.{IsFit, fit_comes, first_fit}
 use Rattle.io_law.proofs.Places.{get_all, often_at, slice_get-append, slice_get-seam}

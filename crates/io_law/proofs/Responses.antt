@@ -1,22 +1,5 @@
 -- Each response that came is a packet with which a node replied.
-use Rattle.std.proofs.Common.{◌≡◌, ◌≤◌, ◌<◌, ℕ, false, List, [], ◌∷◌, ◌++◌, refl, sym, ap, ◌∙◌, subst, arith, if◌then◌else◌}
-use Rattle.std.specs.List.{AllByRecursion}
-use Rattle.std.proofs.lemmas.Bool.{eq-eqb}
-use Rattle.rio_packets.specs.Fields.{ftype_of, is_maintenance}
-use Rattle.fabric_script.specs.declared.lines.Numbered.{Numbered}
-use Rattle.fabric_model.specs.Network.{Item}
-use Rattle.fabric_model.specs.Laws.History.{taken_by, items_taken, WasTaken}
-use Rattle.fabric_model.specs.Laws.Holding.{how_often}
-use Rattle.fabric_model.specs.Laws.Leaving.{IsAfterMoves, moves}
-use Rattle.fabric_model.proofs.Lists.{all-append, all_weaker}
-use Rattle.fabric_model.proofs.Holding.{how_often-append}
-use Rattle.trace_lines.specs.Lines.{steps_of}
-use Rattle.fabric_trace.specs.Runs.{start, set_up_all, bare}
-use Rattle.fabric_trace.proofs.SetUps.Starting.{lawful}
-use Rattle.io_rounds.specs.Tasks.{IoTask, Carry, Ask, Settle, Turn, Reply, Fetch, Finish}
-use Rattle.io_rounds.specs.Going.{IoState, IoGoes, IoBegins, IoTurns, IoActs, IoEnds, IoComes, Here, Further}
-use Rattle.io_law.specs.Items.{replied_behind, network_at, asked_by, replied_by, io_replied, came}
-use Rattle.io_law.specs.Laws.{ResponsesWereReplied}
+use Rattle.io_law.proofs.Prelude.{◌≡◌, ◌≤◌, ◌<◌, ℕ, false, List, [], ◌∷◌, ◌++◌, refl, sym, ap, ◌∙◌, subst, arith, if◌then◌else◌, AllByRecursion, eq-eqb, ftype_of, is_maintenance, Numbered, Item, taken_by, items_taken, WasTaken, how_often, IsAfterMoves, moves, all-append, all_weaker, how_often-append, steps_of, start, set_up_all, bare, lawful, IoTask, Carry, Ask, Settle, Turn, Reply, Fetch, Finish, IoState, IoGoes, IoBegins, IoTurns, IoActs, IoEnds, IoComes, Here, Further, replied_behind, network_at, asked_by, replied_by, io_replied, came, ResponsesWereReplied}
 use Rattle.io_law.proofs.Arriving.{same_after, all_come}
 use Rattle.io_law.proofs.Fit.{IsFit, fit_comes, first_fit}
 use Rattle.io_law.proofs.Items.{given_goes}

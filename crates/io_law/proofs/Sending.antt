@@ -1,21 +1,5 @@
 -- What nodes ask with and reply is what they were to send, and is taken in this order.
-use Rattle.std.proofs.Common.{◌≡◌, ◌≤◌, ◌<◌, ◌+◌, ℕ, zero, suc, false, List, [], ◌∷◌, ◌++◌, length, Some, refl, sym, ap, ◌∙◌, subst, arith, ◌⊎◌, inl, inr, append_assoc}
-use Rattle.std.specs.Prelude.{slice_get}
-use Rattle.std.specs.List.{AllByRecursion}
-use Rattle.std.proofs.lemmas.List.{length-append}
-use Rattle.fabric_script.specs.declared.lines.Numbered.{Numbered}
-use Rattle.fabric_model.specs.Network.{Network, Item}
-use Rattle.fabric_model.specs.Steps.{Step, after}
-use Rattle.fabric_model.specs.Laws.History.{taken_by, items_taken}
-use Rattle.fabric_model.specs.Laws.Tables.{is_answer}
-use Rattle.fabric_model.proofs.Lists.{all-append, all-parts}
-use Rattle.trace_lines.specs.Lines.{TraceLine, steps_of}
-use Rattle.fabric_trace.specs.Runs.{start, set_up_all, bare}
-use Rattle.fabric_trace.specs.SetUps.{IsSetUp}
-use Rattle.fabric_trace.proofs.Parts.Keeping.{steps_of-append}
-use Rattle.fabric_trace.proofs.SetUps.Starting.{lawful}
-use Rattle.io_rounds.specs.Going.{IoState, IoGoes, IoComes, Here, Further}
-use Rattle.io_law.specs.Items.{network_at, asked_by, replied_by, io_asked, io_replied}
+use Rattle.io_law.proofs.Prelude.{◌≡◌, ◌≤◌, ◌<◌, ◌+◌, ℕ, zero, suc, false, List, [], ◌∷◌, ◌++◌, length, Some, refl, sym, ap, ◌∙◌, subst, arith, ◌⊎◌, inl, inr, append_assoc, slice_get, AllByRecursion, length-append, Numbered, Network, Item, Step, after, taken_by, items_taken, is_answer, all-append, all-parts, TraceLine, steps_of, start, set_up_all, bare, IsSetUp, steps_of-append, lawful, IoState, IoGoes, IoComes, Here, Further, network_at, asked_by, replied_by, io_asked, io_replied}
 use Rattle.io_law.proofs.Fit.{IsFit, fit_comes}
 use Rattle.io_law.proofs.Numbers.{GivesNone, GivesOne, gives}
 use Rattle.io_law.proofs.Places.{slice_get-seam}
@@ -33,8 +17,7 @@ NumberedFrom low (x ∷ xs) = (x.number ≡ low) × NumberedFrom (suc low) xs
 taken_numbered : (net : Network) (steps : List Step)
     → NumberedFrom net.given (items_taken net steps)
 taken_numbered net [] = tt
-taken_numbered net (step ∷ steps) =
-    by (gives net step) (taken_numbered (after net step) steps)
+taken_numbered net (step ∷ steps) = by (gives net step) (taken_numbered (after net step) steps)
   where
     rest : List Item
     rest = items_taken (after net step) steps

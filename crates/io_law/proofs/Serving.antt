@@ -1,39 +1,7 @@
 -- A node replies to what it serves, in order, by the memory that the lines before leave.
-use Rattle.std.proofs.Common.{◌≡◌, ◌≤◌, ℕ, Bool, true, false, eqb, List, [], ◌∷◌, ◌++◌, length, map, take, Option, Some, None, refl, sym, ap, ◌∙◌, subst, arith, if◌then◌else◌}
-use Rattle.std.specs.Prelude.{slice_get, unwrap_or, option_map}
-use Rattle.std.specs.List.{AllByRecursion}
-use Rattle.std.proofs.Math.Seq.{take-append_seam}
-use Rattle.std.proofs.lemmas.Bool.{eqb-true}
-use Rattle.std.proofs.lemmas.List.{take-append-le, length-append, length-map}
-use Rattle.rio_packets.specs.Fields.{body_of}
+use Rattle.io_law.proofs.Prelude.{◌≡◌, ◌≤◌, ℕ, Bool, true, false, eqb, List, [], ◌∷◌, ◌++◌, length, map, take, Option, Some, None, refl, sym, ap, ◌∙◌, subst, arith, if◌then◌else◌, slice_get, unwrap_or, option_map, AllByRecursion, take-append_seam, eqb-true, take-append-le, length-append, length-map, body_of, Registers, Line, Send, Numbered, Network, Item, sender_id, items_taken, gone, all-append, all_weaker, IsBlock, seen, Seen, TraceLine, steps_of, start, set_up_all, bare, IsSetUp, legal, happened, Happened, Io, NumberedIo, memory_of, kept_of_node, met_by, answer_by, answer_at_node, IoTask, Carry, Ask, Settle, Turn, Reply, Fetch, Finish, task_event, IoState, IoGoes, IoBegins, IoTurns, IoActs, IoEnds, IoComes, Here, Further, first_state, IoTold, ToldCame, io_told, told_by, told_behind, and_told, memory_left, network_at, IsSentBy, RepliesAnswerServed, Served, IoSent, served_with, served_behind, served_by, io_served_at, reply_to, sent_behind, io_sent_by, sent_at, IsIoServed}
 use Rattle.rio_packets.specs.LinkForm.{LinkForm}
-use Rattle.maint_registers.specs.Devices.{Registers}
-use Rattle.fabric_script.specs.declared.lines.Line.{Line}
-use Rattle.fabric_script.specs.declared.lines.Line.TheVariants.{Send}
-use Rattle.fabric_script.specs.declared.lines.Numbered.{Numbered}
-use Rattle.fabric_model.specs.Network.{Network, Item, sender_id}
-use Rattle.fabric_model.specs.Laws.History.{items_taken, gone}
-use Rattle.fabric_model.proofs.Lists.{all-append, all_weaker}
-use Rattle.fabric_trace.specs.Blocks.{IsBlock}
-use Rattle.fabric_trace.specs.Fold.{seen}
-use Rattle.fabric_trace.specs.Known.{Seen}
-use Rattle.trace_lines.specs.Lines.{TraceLine, steps_of}
-use Rattle.fabric_trace.specs.Runs.{start, set_up_all, bare}
-use Rattle.fabric_trace.specs.SetUps.{IsSetUp}
-use Rattle.fabric_trace.proofs.SetUps.Starting.{legal}
-use Rattle.fabric_ports.specs.Events.{happened}
-use Rattle.fabric_ports.specs.declared.answers.Happened.{Happened}
 use Rattle.fabric_ports.specs.declared.answers.Happened.TheVariants as Answers
-use Rattle.io_packets.specs.declared.io.Io.{Io}
-use Rattle.io_script.specs.declared.lines.NumberedIo.{NumberedIo}
-use Rattle.io_rounds.specs.Stations.{memory_of, kept_of_node, met_by, answer_by, answer_at_node}
-use Rattle.io_rounds.specs.Tasks.{IoTask, Carry, Ask, Settle, Turn, Reply, Fetch, Finish, task_event}
-use Rattle.io_rounds.specs.Going.{IoState, IoGoes, IoBegins, IoTurns, IoActs, IoEnds, IoComes, Here, Further}
-use Rattle.io_rounds.specs.Drives.{first_state}
-use Rattle.io_law.specs.Telling.{IoTold, ToldCame, io_told, told_by, told_behind, and_told, memory_left}
-use Rattle.io_law.specs.Items.{network_at, IsSentBy}
-use Rattle.io_law.specs.Laws.{RepliesAnswerServed}
-use Rattle.io_law.specs.Replies.{Served, IoSent, served_with, served_behind, served_by, io_served_at, reply_to, sent_behind, io_sent_by, sent_at, IsIoServed}
 use Rattle.io_law.proofs.Fit.{HeadFit, TasksFit, IsFit, fit_comes, first_fit, new_none}
 use Rattle.io_law.proofs.Items.{left_one}
 use Rattle.io_law.proofs.Keeping.{Keeps, behind_all, at_first}
@@ -202,11 +170,7 @@ task_sent s block kept count node net (Reply at own) line same fit event is = by
     by true = all_as net own items all
     by false = tt
 task_sent s block kept count node net (Ask at tid own) line same fit event is = tt
-task_sent s block kept count node net Settle line same fit event is = tt
-task_sent s block kept count node net (Fetch at) line same fit event is = tt
-task_sent s block kept count node net (Carry own) line same fit event is = tt
-task_sent s block kept count node net (Turn at) line same fit event is = tt
-task_sent s block kept count node net Finish line same fit event is = tt
+task_sent s block kept count node net _ line same fit event is = tt
 
 goes_sent : {names : List (List ℕ)} {script : List Numbered} {s t : IoState} (node : ℕ)
     (goes : IoGoes names script s t) → IsFit s

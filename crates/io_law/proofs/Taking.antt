@@ -1,32 +1,6 @@
 -- What the network takes in a run is what nodes asked with and replied, and what leaves came.
-use Rattle.std.proofs.Common.{◌≡◌, ◌<◌, ℕ, Bool, true, false, List, [], ◌∷◌, ◌++◌, length, Option, Some, refl, sym, ap, ap₂, ◌∙◌, subst, arith, append-nil, if◌then◌else◌}
-use Rattle.std.specs.List.{AllByRecursion}
-use Rattle.rio_packets.specs.Fields.{prio_of}
-use Rattle.rio_packets.proofs.FieldLaws.{ftype_of-link_form}
-use Rattle.switch_core.specs.EndpointSteps.{collected}
-use Rattle.switch_core.specs.declared.endpoint.Collected.{Collected}
+use Rattle.io_law.proofs.Prelude.{◌≡◌, ◌<◌, ℕ, Bool, true, false, List, [], ◌∷◌, ◌++◌, length, Option, Some, refl, sym, ap, ap₂, ◌∙◌, subst, arith, append-nil, if◌then◌else◌, AllByRecursion, prio_of, ftype_of-link_form, collected, Collected, Line, Send, Collect, Numbered, Network, port_of, id_of, room_out, Take, Leave, Move, Drop, Answer, Linked, AtNode, ByDevice, after, EndLeft, ended_by, items_taken, gone, all-append, IsBlock, seen, Seen, NoRoom, TraceLine, Begun, Stepped, Signed, Lacked, Ended, Undetected, steps_of, start, set_up_all, bare, face_in, collect_lines, IsSetUp, steps_of-append, legal, happened, kept_of_node, IoTask, Carry, Ask, Settle, Turn, Reply, Fetch, Finish, task_event, IoState, IoGoes, IoBegins, IoTurns, IoActs, IoEnds, IoComes, Here, Further, asked_behind, replied_behind, came_behind, network_at, asked_by, replied_by, came_by, came}
 use Rattle.switch_core.specs.declared.endpoint.Collected.TheVariants as Collects
-use Rattle.fabric_script.specs.declared.lines.Line.{Line}
-use Rattle.fabric_script.specs.declared.lines.Line.TheVariants.{Send, Collect}
-use Rattle.fabric_script.specs.declared.lines.Numbered.{Numbered}
-use Rattle.fabric_model.specs.Network.{Network, port_of, id_of, room_out}
-use Rattle.fabric_model.specs.Steps.{Take, Leave, Move, Drop, Answer, Linked, AtNode, ByDevice, after}
-use Rattle.fabric_model.specs.Laws.History.{EndLeft, ended_by, items_taken, gone}
-use Rattle.fabric_model.proofs.Lists.{all-append}
-use Rattle.fabric_trace.specs.Blocks.{IsBlock}
-use Rattle.fabric_trace.specs.Fold.{seen}
-use Rattle.fabric_trace.specs.Known.{Seen}
-use Rattle.trace_lines.specs.Lines.{Full as NoRoom, TraceLine, Begun, Stepped, Signed, Lacked, Ended, Undetected, steps_of}
-use Rattle.fabric_trace.specs.Runs.{start, set_up_all, bare}
-use Rattle.fabric_trace.specs.Served.{face_in, collect_lines}
-use Rattle.fabric_trace.specs.SetUps.{IsSetUp}
-use Rattle.fabric_trace.proofs.Parts.Keeping.{steps_of-append}
-use Rattle.fabric_trace.proofs.SetUps.Starting.{legal}
-use Rattle.fabric_ports.specs.Events.{happened}
-use Rattle.io_rounds.specs.Stations.{kept_of_node}
-use Rattle.io_rounds.specs.Tasks.{IoTask, Carry, Ask, Settle, Turn, Reply, Fetch, Finish, task_event}
-use Rattle.io_rounds.specs.Going.{IoState, IoGoes, IoBegins, IoTurns, IoActs, IoEnds, IoComes, Here, Further}
-use Rattle.io_law.specs.Items.{asked_behind, replied_behind, came_behind, network_at, asked_by, replied_by, came_by, came}
 use Rattle.io_law.proofs.Fit.{AsksFit, RepliesFit, HeadFit, TasksFit, IsFit, fit_comes}
 use Rattle.io_law.proofs.NoTakes.{OnlyAt, Leaves, Never, rounds_none, collect_none}
 use Rattle.io_law.proofs.Places.{same_line}
@@ -112,8 +86,7 @@ leaves_plain : (lines : List TraceLine) → OnlyAt Leaves lines
     → AllByRecursion TakesPlain (steps_of lines)
 leaves_plain [] none = tt
 leaves_plain (Stepped (AtNode (Take n packet)) ∷ lines) none = absurd none.0
-leaves_plain (Stepped (AtNode (Leave n packet)) ∷ lines) none =
-    (tt, leaves_plain lines none.1)
+leaves_plain (Stepped (AtNode (Leave n packet)) ∷ lines) none = (tt, leaves_plain lines none.1)
 leaves_plain (Stepped (Linked step) ∷ lines) none = (tt, leaves_plain lines none)
 leaves_plain (Stepped (ByDevice step) ∷ lines) none = (tt, leaves_plain lines none)
 leaves_plain (Begun line ∷ lines) none = leaves_plain lines none
@@ -126,8 +99,7 @@ none_gone : (net : Network) (lines : List TraceLine) → OnlyAt Never lines
     → gone net (steps_of lines) ≡ []
 none_gone net [] none = refl
 none_gone net (Stepped (AtNode step) ∷ lines) none = absurd none.0
-none_gone net (Stepped (Linked step) ∷ lines) none =
-    none_gone (after net (Linked step)) lines none
+none_gone net (Stepped (Linked step) ∷ lines) none = none_gone (after net (Linked step)) lines none
 none_gone net (Stepped (ByDevice (Move p q packet)) ∷ lines) none =
     none_gone (after net (ByDevice (Move p q packet))) lines none
 none_gone net (Stepped (ByDevice (Drop p packet)) ∷ lines) none =
@@ -284,12 +256,11 @@ pub goes_gone : {names : List (List ℕ)} {script : List Numbered} {s t : IoStat
     (goes : IoGoes names script s t) → IsFit s
     → gone (network_at script s) (steps_of (added goes)) ≡ came_by goes
 goes_gone (IoBegins line rest is to) fit = refl
-goes_gone (IoTurns node rest is to) fit = refl
 goes_gone {names} {script} {s} (IoActs task rest line block is event block_is sent to) fit =
     task_gone (seen (start script) s.trace) block (kept_of_node s.stations) (length s.stations)
     task line
     (subst (TasksFit (kept_of_node s.stations) (length s.stations)) is fit.tasks).0 event block_is
-goes_gone (IoEnds rest is to) fit = refl
+goes_gone _ fit = refl
 
 -- what came is what left
 pub comes_gone : {names : List (List ℕ)} {script : List Numbered} {first s : IoState}
@@ -307,10 +278,9 @@ pub goes_taken : {names : List (List ℕ)} {script : List Numbered} {s t : IoSta
     (goes : IoGoes names script s t) → IsFit s → NoAnswers (steps_of (added goes))
     → items_taken (network_at script s) (steps_of (added goes)) ≡ asked_by goes ++ replied_by goes
 goes_taken (IoBegins line rest is to) fit plain = refl
-goes_taken (IoTurns node rest is to) fit plain = refl
 goes_taken {names} {script} {s} (IoActs task rest line block is event block_is sent to) fit plain =
     task_taken (seen (start script) s.trace) block (kept_of_node s.stations) (length s.stations)
     task line
     (subst (TasksFit (kept_of_node s.stations) (length s.stations)) is fit.tasks).0 event block_is
     plain
-goes_taken (IoEnds rest is to) fit plain = refl
+goes_taken _ fit plain = refl

@@ -1,13 +1,6 @@
 -- What is written in a run is the text of what it told.
-use Rattle.std.proofs.Common.{◌≡◌, ℕ, List, [], ◌∷◌, ◌++◌, Option, Some, None, refl, sym, ap, ◌∙◌, append-nil, append_assoc}
-use Rattle.fabric_script.specs.declared.lines.Numbered.{Numbered}
-use Rattle.fabric_ports.specs.Events.{happened}
-use Rattle.fabric_ports.specs.declared.answers.Happened.{Happened}
+use Rattle.io_law.proofs.Prelude.{◌≡◌, ℕ, List, [], ◌∷◌, ◌++◌, Option, Some, None, refl, sym, ap, ◌∙◌, append-nil, append_assoc, Numbered, happened, Happened, IoTask, Carry, Ask, Settle, Turn, Reply, Fetch, Finish, IoState, left_to_do, with_event, behind_event, IoGoes, IoBegins, IoTurns, IoActs, IoEnds, IoComes, Here, Further, IoTold, io_told, told_by, told_behind, and_told, told_text, text_told, OutputIsTold}
 use Rattle.fabric_ports.specs.declared.answers.Happened.TheVariants as Answers
-use Rattle.io_rounds.specs.Tasks.{IoTask, Carry, Ask, Settle, Turn, Reply, Fetch, Finish}
-use Rattle.io_rounds.specs.Going.{IoState, left_to_do, with_event, behind_event, IoGoes, IoBegins, IoTurns, IoActs, IoEnds, IoComes, Here, Further}
-use Rattle.io_law.specs.Telling.{IoTold, io_told, told_by, told_behind, and_told, told_text, text_told}
-use Rattle.io_law.specs.Laws.{OutputIsTold}
 
 -- the text of one line, if there is one
 abbrev text_of : List (List ℕ) → Option IoTold → List ℕ

@@ -1,31 +1,11 @@
 -- The trace of a run is made of parts, and so its steps are legal.
-use Rattle.std.proofs.Common.{◌≡◌, ℕ, List, [], ◌∷◌, ◌++◌, None, refl, sym, ap, ◌∙◌, subst, append-nil, append_assoc}
-use Rattle.fabric_script.specs.declared.lines.Line.{Line}
-use Rattle.fabric_script.specs.declared.lines.Numbered.{Numbered}
-use Rattle.fabric_model.specs.Network.{Network}
-use Rattle.fabric_model.specs.Steps.{Step, after, after_all, LegalFrom}
-use Rattle.fabric_model.specs.Laws.History.{gathered}
-use Rattle.fabric_trace.specs.Blocks.{IsBlock}
-use Rattle.fabric_trace.specs.Fold.{seen}
-use Rattle.fabric_trace.specs.Known.{Seen}
-use Rattle.trace_lines.specs.Lines.{TraceLine, Begun, steps_of}
+use Rattle.io_law.proofs.Prelude.{◌≡◌, ℕ, List, [], ◌∷◌, ◌++◌, None, refl, sym, ap, ◌∙◌, subst, append-nil, append_assoc, Line, Numbered, Network, Step, after, after_all, LegalFrom, gathered, IsBlock, seen, Seen, TraceLine, Begun, steps_of, start, set_up_all, bare, IsSetUp, steps_of-append, made_keeps, set_up_bare, good_start, happened, Happened, NumberedIo, IoTask, Carry, Ask, Settle, Turn, Reply, Fetch, Finish, IoState, left_to_do, with_event, behind_event, IoGoes, IoBegins, IoTurns, IoActs, IoEnds, IoComes, Here, Further, IsIoFit, network_at}
 use Rattle.fabric_trace.specs.Parts.{Made, Done, Then, PartBegins}
-use Rattle.fabric_trace.specs.Runs.{start, set_up_all, bare}
-use Rattle.fabric_trace.specs.SetUps.{IsSetUp}
 use Rattle.fabric_trace.proofs.Parts.Folding.{network_is}
 use Rattle.fabric_trace.proofs.SetUps.Happening.{may_set_up}
-use Rattle.fabric_trace.proofs.Parts.Keeping.{steps_of-append, made_keeps}
 use Rattle.fabric_trace.proofs.Parts.Making.{made-append}
 use Rattle.fabric_trace.proofs.Rounds.Running.{block_made}
-use Rattle.fabric_trace.proofs.SetUps.Starting.{set_up_bare, good_start}
-use Rattle.fabric_ports.specs.Events.{happened}
-use Rattle.fabric_ports.specs.declared.answers.Happened.{Happened}
 use Rattle.fabric_ports.specs.declared.answers.Happened.TheVariants as Answers
-use Rattle.io_script.specs.declared.lines.NumberedIo.{NumberedIo}
-use Rattle.io_rounds.specs.Tasks.{IoTask, Carry, Ask, Settle, Turn, Reply, Fetch, Finish}
-use Rattle.io_rounds.specs.Going.{IoState, left_to_do, with_event, behind_event, IoGoes, IoBegins, IoTurns, IoActs, IoEnds, IoComes, Here, Further}
-use Rattle.io_rounds.specs.Drives.{IsIoFit}
-use Rattle.io_law.specs.Items.{network_at}
 
 -- ---- what a task adds
 

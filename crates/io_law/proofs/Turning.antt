@@ -1,35 +1,6 @@
 -- Packets come in the order in which they were sent.
-use Rattle.std.proofs.Common.{◌≡◌, ◌<◌, ℕ, Bool, true, false, List, [], ◌∷◌, length, Option, Some, None, refl, sym, ap, ◌∙◌, subst, arith, if◌then◌else◌}
-use Rattle.std.specs.Prelude.{slice_get}
-use Rattle.std.specs.List.{AllByRecursion}
-use Rattle.std.proofs.lemmas.Bool.{ne_eqb}
-use Rattle.rio_packets.specs.Fields.{prio_of, ftype_of, hop_of}
-use Rattle.rio_packets.proofs.FieldLaws.{ftype_of-link_form, prio_of-link_form}
-use Rattle.fabric_script.specs.declared.lines.Line.{Line}
-use Rattle.fabric_script.specs.declared.lines.Line.TheVariants.{Send}
-use Rattle.fabric_script.specs.declared.lines.Numbered.{Numbered}
-use Rattle.fabric_model.specs.Network.{Network, Item, port_of, id_of, room_out}
-use Rattle.fabric_model.specs.Steps.{Take, AtNode}
-use Rattle.fabric_model.specs.Laws.Flows.{SameCourse}
-use Rattle.fabric_model.specs.Laws.History.{EndLeft, items_taken, gone, WasTaken}
-use Rattle.fabric_model.specs.Laws.Holding.{Over}
-use Rattle.fabric_model.proofs.Lists.{all-append, all_weaker}
-use Rattle.fabric_trace.specs.Blocks.{IsBlock}
-use Rattle.fabric_trace.specs.Fold.{seen}
-use Rattle.fabric_trace.specs.Known.{Seen}
-use Rattle.trace_lines.specs.Lines.{Full as NoRoom, TraceLine, Stepped, Lacked, steps_of}
-use Rattle.fabric_trace.specs.Runs.{start, set_up_all, bare}
-use Rattle.fabric_trace.proofs.SetUps.Starting.{lawful}
-use Rattle.fabric_ports.specs.Events.{happened}
-use Rattle.fabric_ports.specs.declared.answers.Happened.{Happened}
+use Rattle.io_law.proofs.Prelude.{◌≡◌, ◌<◌, ℕ, Bool, true, false, List, [], ◌∷◌, length, Option, Some, None, refl, sym, ap, ◌∙◌, subst, arith, if◌then◌else◌, slice_get, AllByRecursion, ne_eqb, prio_of, ftype_of, hop_of, ftype_of-link_form, prio_of-link_form, Line, Send, Numbered, Network, Item, port_of, id_of, room_out, Take, AtNode, SameCourse, EndLeft, items_taken, gone, WasTaken, Over, all-append, all_weaker, IsBlock, seen, Seen, NoRoom, TraceLine, Stepped, Lacked, steps_of, start, set_up_all, bare, lawful, happened, Happened, NumberedIo, kept_of_node, IoTask, Carry, Ask, Settle, Turn, Reply, Fetch, Finish, task_event, IoState, IoGoes, IoBegins, IoActs, IoComes, Here, Further, IsIoFit, first_state, asked_behind, replied_behind, asked_by, replied_by, io_asked, io_replied, came, IsSentBy, SameWay, ComesBefore, PacketsComeInTurn}
 use Rattle.fabric_ports.specs.declared.answers.Happened.TheVariants as Answers
-use Rattle.io_script.specs.declared.lines.NumberedIo.{NumberedIo}
-use Rattle.io_rounds.specs.Stations.{kept_of_node}
-use Rattle.io_rounds.specs.Tasks.{IoTask, Carry, Ask, Settle, Turn, Reply, Fetch, Finish, task_event}
-use Rattle.io_rounds.specs.Going.{IoState, IoGoes, IoBegins, IoTurns, IoActs, IoEnds, IoComes, Here, Further}
-use Rattle.io_rounds.specs.Drives.{IsIoFit, first_state}
-use Rattle.io_law.specs.Items.{asked_behind, replied_behind, asked_by, replied_by, io_asked, io_replied, came, IsSentBy}
-use Rattle.io_law.specs.Laws.{SameWay, ComesBefore, PacketsComeInTurn}
 use Rattle.io_law.proofs.Fit.{AsksFit, RepliesFit, HeadFit, TasksFit, IsFit, fit_comes, first_fit}
 use Rattle.io_law.proofs.Order.{first_goes_first}
 use Rattle.io_law.proofs.Places.{same_line, get_all}
@@ -130,23 +101,21 @@ module _ (s : Seen) (block : List TraceLine) (kept : ℕ → Option Line) (count
 pub goes_asked : {names : List (List ℕ)} {script : List Numbered} {s t : IoState}
     (goes : IoGoes names script s t) → IsFit s → AllByRecursion IsAsked (asked_by goes)
 goes_asked (IoBegins line rest is to) fit = tt
-goes_asked (IoTurns node rest is to) fit = tt
 goes_asked {names} {script} {s} (IoActs task rest line block is event block_is sent to) fit =
     task_asked (seen (start script) s.trace) block (kept_of_node s.stations) (length s.stations)
     task line (happened line block)
     (subst (TasksFit (kept_of_node s.stations) (length s.stations)) is fit.tasks).0 event block_is
-goes_asked (IoEnds rest is to) fit = tt
+goes_asked _ fit = tt
 
 pub goes_replied : {names : List (List ℕ)} {script : List Numbered} {s t : IoState}
     (goes : IoGoes names script s t) → IsFit s
     → AllByRecursion IsReplied (replied_by goes)
 goes_replied (IoBegins line rest is to) fit = tt
-goes_replied (IoTurns node rest is to) fit = tt
 goes_replied {names} {script} {s} (IoActs task rest line block is event block_is sent to) fit =
     task_replied (seen (start script) s.trace) block (kept_of_node s.stations) (length s.stations)
     task line
     (subst (TasksFit (kept_of_node s.stations) (length s.stations)) is fit.tasks).0 event block_is
-goes_replied (IoEnds rest is to) fit = tt
+goes_replied _ fit = tt
 
 comes_asked : {names : List (List ℕ)} {script : List Numbered} {first s : IoState}
     (comes : IoComes names script first s) → IsFit first → AllByRecursion IsAsked (io_asked comes)

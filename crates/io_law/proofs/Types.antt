@@ -1,21 +1,8 @@
 -- What is met as a response is one, and carries what was answered.
-use Rattle.std.proofs.Common.{◌≡◌, ◌+◌, ◌==◌, ◌&&◌, ℕ, Bool, true, false, nat_le, List, length, Option, Some, None, refl, sym, ap, ◌∙◌, subst, if◌then◌else◌}
-use Rattle.std.specs.Prelude.{slice_range}
-use Rattle.std.proofs.lemmas.Bool.{eqb-true}
-use Rattle.rio_packets.specs.Fields.{prio_of, tt_of, ftype_of}
-use Rattle.fabric_model.specs.Network.{Network, Item, id_of}
-use Rattle.io_memory.specs.declared.meeting.Met.TheVariants.{Read, Written, Failed, Done}
-use Rattle.io_memory.specs.Meeting.{met_at, met_of, met_without}
+use Rattle.io_law.proofs.Prelude.{◌≡◌, ◌+◌, ◌==◌, ◌&&◌, ℕ, Bool, true, false, nat_le, List, length, Option, Some, None, refl, sym, ap, ◌∙◌, subst, if◌then◌else◌, slice_range, eqb-true, prio_of, tt_of, ftype_of, Network, Item, id_of, Read, Written, Failed, Done, met_at, met_of, met_without, Io, read_or_bad, read_of, has_data, write_of, write_with_response_of, any_write_of, is_stream, streaming_write_of, is_plain_reply, is_reply_with_data, io_response_of, io_of_type, io_of, is_within, answer_to, met_by, answer_by, reply_line, IsSentBy, io_number_of}
 use Rattle.io_memory.proofs.AnswerLaws.{answers_done}
-use Rattle.io_packets.specs.declared.io.Io.{Io}
 use Rattle.io_packets.specs.declared.io.Io.TheVariants as Ios
 use Rattle.io_packets.specs.Layout.{high_half_of, size_of, source_in}
-use Rattle.io_packets.specs.Reading.{read_or_bad, read_of, has_data, write_of, write_with_response_of, any_write_of, is_stream, streaming_write_of, is_plain_reply, is_reply_with_data, io_response_of, io_of_type, io_of}
-use Rattle.io_packets.specs.Serving.{is_within, answer_to}
-use Rattle.io_rounds.specs.Stations.{met_by, answer_by}
-use Rattle.io_rounds.specs.Tasks.{reply_line}
-use Rattle.io_law.specs.Items.{IsSentBy}
-use Rattle.io_memory.specs.Laws.{io_number_of}
 use Rattle.io_law.proofs.Fit.{reply_prio}
 
 -- ---- what is met
@@ -150,8 +137,7 @@ answer_is_reply memory (Ios.NRead tid addr size) answer is =
     (Some (slice_range memory addr (addr + size))) None answer is
 answer_is_reply memory (Ios.NWriteR tid addr load) answer is =
     some_reply (is_within memory addr (length load)) 0 tid 7 tid None None answer is
-answer_is_reply memory (Ios.BadRead tid) answer is =
-    some_reply true 7 tid 7 tid None None answer is
+answer_is_reply memory (Ios.BadRead tid) answer is = some_reply true 7 tid 7 tid None None answer is
 answer_is_reply memory (Ios.BadWriteR tid) answer is =
     some_reply true 7 tid 7 tid None None answer is
 answer_is_reply memory (Ios.NWrite addr load) answer is = absurd cc
@@ -169,8 +155,7 @@ pub answer_is_told : (net : Network) (server : ℕ) (held memory : Option (List 
     (packet : List ℕ) (answer : Io) (item : Item) (tid status : ℕ) (load : Option (List ℕ))
     → answer_by memory packet ≡ Some answer → IsSentBy net (reply_line server packet answer) item
     → met_by held item.taken ≡ Done tid status load → answer ≡ Ios.Reply status tid load
-answer_is_told net server held None packet answer item tid status load answered sent is =
-    absurd cc
+answer_is_told net server held None packet answer item tid status load answered sent is = absurd cc
 answer_is_told net server held (Some memory) packet answer item tid status load answered sent is =
     let it = answer_is_reply memory (io_of packet) answer answered in
     let same = it.is in

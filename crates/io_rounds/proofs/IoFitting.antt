@@ -8,7 +8,7 @@ use Rattle.fabric_script.specs.Lines.{is_event}
 use Rattle.fabric_script.specs.Reading.{new_name_in}
 use Rattle.fabric_script.specs.Scripts.{is_skipped, KeptThen, pieces_of, SpellsFrom}
 use Rattle.fabric_script.specs.SetUps.{NoEvents}
-use Rattle.fabric_script.specs.Texts.{NodeValue}
+use Rattle.fabric_script.specs.declared.values.Value.TheVariants.{Node as NodeValue}
 use Rattle.fabric_script.proofs.ScriptLaws.{Passes-from_script}
 use Rattle.fabric_script.proofs.SetUpLaws.{set_up_passes}
 use Rattle.fabric_model.specs.Network.{Network}

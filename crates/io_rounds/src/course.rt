@@ -15,7 +15,7 @@ use fabric_ports::{Fabric, FabricEnd, Happened};
 use fabric_script::{Line, Name, Numbered, Script};
 use rio_chars::{NoMemory, Outbox, PlainSink};
 use std::alloc::{AllocError, Global};
-use trace_lines::TraceWriter;
+use trace_lines::{PacketCounts, TraceWriter};
 
 /// A fabric, what is kept of each node, whether it is a switch, and where the text of the fabric's
 /// trace goes, which is not kept.
@@ -68,6 +68,7 @@ impl<'a> Course<'a> {
         let mut writer = TraceWriter {
             outbox: &mut self.trace,
             names,
+            counts: PacketCounts::new(),
         };
         match self.fabric.event(alloc, line, &mut writer) {
             Ok(what) => Ok(what),

@@ -5,7 +5,9 @@ use Rattle.std.specs.List.{join_with_byte}
 use Rattle.std.proofs.lemmas.List.Splits.{join_with_byte-slice_split}
 use Rattle.fabric_script.specs.Known.{IsOrderly, Known}
 use Rattle.fabric_script.specs.Lines.{words_of}
-use Rattle.fabric_script.specs.Texts.{NodeValue, Bytes, Counted, InDigits, Value, value_text}
+use Rattle.fabric_script.specs.declared.values.Value.{Value}
+use Rattle.fabric_script.specs.declared.values.Value.TheVariants.{Node as NodeValue, Bytes, Counted, InDigits}
+use Rattle.fabric_script.specs.Texts.{value_text}
 use Rattle.io_script.specs.declared.forms.IoForm.{IoForm}
 use Rattle.io_script.specs.declared.forms.IoForm.TheVariants as F
 use Rattle.io_script.specs.declared.lines.IoLine.{IoLine}

@@ -2,7 +2,9 @@
 use Rattle.std.proofs.Common.{◌≡◌, ℕ, Bool, true, false, List, [], ◌∷◌, length, Option, refl, inl, inr, arith}
 use Rattle.fabric_script.specs.Hits.{FitsField}
 use Rattle.fabric_script.specs.Known.{Known}
-use Rattle.fabric_script.specs.Texts.{Value, NodeValue, Counted, Bytes, InDigits, value_text}
+use Rattle.fabric_script.specs.declared.values.Value.{Value}
+use Rattle.fabric_script.specs.declared.values.Value.TheVariants.{Node as NodeValue, Counted, Bytes, InDigits}
+use Rattle.fabric_script.specs.Texts.{value_text}
 use Rattle.script_law.proofs.NumberWords.{SaysOrHit, number_or_hit, digits_or_hit}
 use Rattle.script_law.proofs.NodeWords.{node_or_hit}
 use Rattle.script_law.proofs.HexWords.{hex_or_hit}

@@ -2,7 +2,8 @@
 use Rattle.std.proofs.Common.{◌≡◌, ◌≢◌, ℕ, ◌≤◌, nat_le, suc, Bool, true, false, List, [], ◌∷◌, map, length, Option, Some, None, ◌⊎◌, inl, inr, refl, sym, ap, ap₂, ◌∙◌, subst, cond, arith}
 use Rattle.std.proofs.lemmas.Bool.Decides.{nat_tests}
 use Rattle.fabric_script.specs.Known.{IsOrderly, Known}
-use Rattle.fabric_script.specs.Texts.{Value, value_text}
+use Rattle.fabric_script.specs.declared.values.Value.{Value}
+use Rattle.fabric_script.specs.Texts.{value_text}
 use Rattle.fabric_script.proofs.Exclusion.{no_hit, same_reason}
 use Rattle.fabric_script.proofs.LineLaws.{IsSmall, same_value}
 use Rattle.fabric_script.proofs.Outcomes.{number_in_range}

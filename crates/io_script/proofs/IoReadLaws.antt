@@ -5,7 +5,9 @@ use Rattle.std.proofs.lemmas.Bool.{and_parts}
 use Rattle.fabric_script.specs.declared.reasons.Reason.TheVariants.{TooMuchWork, UnknownLine}
 use Rattle.fabric_script.specs.Known.{IsOrderly, Known}
 use Rattle.fabric_script.specs.Lines.{words_of}
-use Rattle.fabric_script.specs.Texts.{Bytes, Value, value_text}
+use Rattle.fabric_script.specs.declared.values.Value.{Value}
+use Rattle.fabric_script.specs.declared.values.Value.TheVariants.{Bytes}
+use Rattle.fabric_script.specs.Texts.{value_text}
 use Rattle.fabric_script.specs.Words.{first_word}
 use Rattle.io_script.specs.declared.forms.IoForm.{IoForm}
 use Rattle.io_script.specs.declared.forms.IoForm.TheVariants as F

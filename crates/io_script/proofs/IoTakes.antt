@@ -5,7 +5,9 @@ use Rattle.fabric_script.specs.declared.reasons.Reason.TheVariants.{BadHex, BadL
 use Rattle.fabric_script.specs.Hits.{HexIsBad}
 use Rattle.fabric_script.specs.Known.{is_known_switch, Known}
 use Rattle.fabric_script.specs.Names.{name_of}
-use Rattle.fabric_script.specs.Texts.{Bytes, hex_text, Value, value_text}
+use Rattle.fabric_script.specs.declared.values.Value.{Value}
+use Rattle.fabric_script.specs.declared.values.Value.TheVariants.{Bytes}
+use Rattle.fabric_script.specs.Texts.{hex_text, value_text}
 use Rattle.io_packets.specs.Forms.{is_size, is_stream_size}
 use Rattle.io_script.specs.declared.reasons.IoReason.{IoReason}
 use Rattle.io_script.specs.declared.reasons.IoReason.TheVariants.{OfScript}

@@ -1,7 +1,9 @@
 -- What a line is: its form, and what its words say.
 use Rattle.std.specs.Prelude.{ℕ, ◌<◌, List, [], ◌∷◌, length, map}
 use Rattle.std.specs.List.{join_with_byte}
-use Rattle.fabric_script.specs.Texts.{Value, NodeValue, Counted, Bytes, InDigits, value_text}
+use Rattle.fabric_script.specs.declared.values.Value.{Value}
+use Rattle.fabric_script.specs.declared.values.Value.TheVariants.{Node as NodeValue, Counted, Bytes, InDigits}
+use Rattle.fabric_script.specs.Texts.{value_text}
 use Rattle.io_script.specs.declared.forms.IoForm.{IoForm}
 use Rattle.io_script.specs.declared.forms.IoForm.TheVariants as F
 use Rattle.io_script.specs.declared.lines.IoLine.{IoLine}

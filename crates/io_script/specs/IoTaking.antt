@@ -7,7 +7,8 @@ use Rattle.fabric_script.specs.declared.lines.Line.TheVariants.{Endpoint, Switch
 use Rattle.fabric_script.specs.declared.lines.Numbered.{Numbered}
 use Rattle.fabric_script.specs.declared.reasons.Reason.TheVariants.{TooMuchWork, UnknownLine}
 use Rattle.fabric_script.specs.Known.{IsOrderly, Known, node_is_switch}
-use Rattle.fabric_script.specs.Texts.{Value, value_text}
+use Rattle.fabric_script.specs.declared.values.Value.{Value}
+use Rattle.fabric_script.specs.Texts.{value_text}
 use Rattle.io_script.specs.declared.forms.IoForm.{IoForm}
 use Rattle.io_script.specs.declared.forms.IoForm.TheVariants as F
 use Rattle.io_script.specs.declared.lines.IoLine.{IoLine}

@@ -2,10 +2,13 @@
 use Rattle.std.specs.Prelude.{◌≡◌, ℕ, ◌%◌, Bool, true, false, ◌==◌, not, ◌⊎◌, List, [], ◌∷◌, length}
 use Rattle.fabric_script.specs.declared.reasons.Reason.{Reason}
 use Rattle.fabric_script.specs.declared.reasons.Reason.TheVariants.{BadNumber, BadLength, WrongKind}
-use Rattle.fabric_script.specs.Forms.{Field, Node, Number, Hex, Digits}
+use Rattle.fabric_script.specs.declared.fields.Field.{Field}
+use Rattle.fabric_script.specs.declared.fields.Field.TheVariants.{Node, Number, Hex, Digits}
 use Rattle.fabric_script.specs.Hits.{FitsField, Hits}
 use Rattle.fabric_script.specs.Known.{Known, is_known_switch}
-use Rattle.fabric_script.specs.Texts.{Value, NodeValue, Counted, Bytes, InDigits, value_text}
+use Rattle.fabric_script.specs.declared.values.Value.{Value}
+use Rattle.fabric_script.specs.declared.values.Value.TheVariants.{Node as NodeValue, Counted, Bytes, InDigits}
+use Rattle.fabric_script.specs.Texts.{value_text}
 use Rattle.io_packets.specs.Forms.{is_size, is_stream_size}
 use Rattle.io_script.specs.declared.reasons.IoReason.{IoReason}
 use Rattle.io_script.specs.declared.reasons.IoReason.TheVariants.{OfScript, Misaligned}

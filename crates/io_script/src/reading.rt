@@ -1,7 +1,7 @@
 //! A line from its text.
 ghost use Rattle.std.specs.Prelude.{◌≡◌, ◌≢◌, ◌+◌, ◌≤◌, ◌∷◌, [], true, length, IfOk, MatchOption};
 ghost use Rattle.fabric_script.specs.Known.{Known};
-ghost use Rattle.fabric_script.specs.Texts.{Bytes};
+ghost use Rattle.fabric_script.specs.declared.values.Value.TheVariants.{Bytes};
 ghost use Rattle.fabric_script.specs.Words.{words_left};
 ghost use Rattle.io_script.specs.declared.forms.IoForm.TheVariants as F;
 ghost use Rattle.io_script.specs.declared.reasons.IoReason.TheVariants.{OfScript};

@@ -5,7 +5,8 @@
 ghost use Rattle.std.specs.Prelude.{◌≡◌, ◌≢◌, ℕ, ◌≤◌, IfOk, IsTrue, MatchOption, MatchResult, length, slice_index_or, false, if◌then◌else◌};
 ghost use Rattle.std.specs.Fmt.{decimal};
 ghost use Rattle.fabric_script.specs.Known.{Known};
-ghost use Rattle.fabric_script.specs.Texts.{NodeValue, Counted, Bytes, InDigits, value_text};
+ghost use Rattle.fabric_script.specs.declared.values.Value.TheVariants.{Node as NodeValue, Counted, Bytes, InDigits};
+ghost use Rattle.fabric_script.specs.Texts.{value_text};
 ghost use Rattle.io_packets.specs.Forms.{is_size, is_stream_size};
 ghost use Rattle.io_script.specs.IoForms.{AnEndpoint, DeviceNumber, MemorySize, ReadSize, Address};
 ghost use Rattle.io_script.specs.IoTaking.{data_field, io_noted_by, io_ok_of, with_io_reason, IsFabric, TakesIo};

@@ -4,7 +4,8 @@ ghost use Rattle.std.specs.Fmt.{decimal};
 ghost use Rattle.rio_chars.specs.Written.{Writes};
 ghost use Rattle.fabric_script.specs.LineTexts.{after_words};
 ghost use Rattle.fabric_script.specs.Names.{name_of};
-ghost use Rattle.fabric_script.specs.Texts.{digits_text, value_text, Bytes};
+ghost use Rattle.fabric_script.specs.declared.values.Value.TheVariants.{Bytes};
+ghost use Rattle.fabric_script.specs.Texts.{digits_text, value_text};
 ghost use Rattle.io_script.specs.IoLines.{io_line_text, io_place, io_values_of, IsNamed};
 
 use crate::lines::IoLine;

@@ -1,9 +1,7 @@
 -- An input of the set-up lines of a script, with the texts of a host's asks behind them, is lawful.
-use Rattle.std.proofs.Common.{◌++◌, [], ◌∷◌, length}
-use Rattle.trace_lines.specs.Lines.{Ended, steps_of}
+use Rattle.lawful_asks.proofs.Prelude.{◌++◌, [], ◌∷◌, length, Ended, steps_of, InputsOfAsksAreLawful}
 use Rattle.lawful_traces.specs.Texts.{trace_texts}
 use Rattle.lawful_traces.proofs.Inputs.{knows_of, has_lawful}
-use Rattle.lawful_asks.specs.AskTexts.{InputsOfAsksAreLawful}
 use Rattle.lawful_asks.proofs.LawfulAsks.{asks_are_lawful}
 
 pub inputs_are_lawful : InputsOfAsksAreLawful

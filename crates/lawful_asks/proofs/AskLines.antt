@@ -1,24 +1,19 @@
 -- The lines of asks begin no event, and what a port got in them is not empty.
-use Rattle.std.proofs.Common.{◌≡◌, inl, inr, ℕ, zero, suc, ◌==◌, ◌||◌, ◌++◌, false, List, [], ◌∷◌, None, refl, sym, ap, ◌∙◌}
+use Rattle.lawful_asks.proofs.Prelude.{◌≡◌, inl, inr, ℕ, zero, suc, ◌==◌, ◌||◌, ◌++◌, false, List, [], ◌∷◌, None, refl, sym, ap, ◌∙◌, port_of, TraceLine, seen, Seen, link_at, GotsSome, AllGotSome, lines_some, sent_some}
 use Rattle.rio_chars.specs.declared.chars.Char.{Char}
 use Rattle.maint_registers.specs.Devices.{Registers, is_switch}
 use Rattle.maint_packets.specs.declared.request.Request.{Request}
 use Rattle.switch_core.specs.EndpointSteps.{collected}
 use Rattle.link_watch.specs.declared.side.Side.TheVariants.{A}
 use Rattle.link_wires.specs.Wires.{bursts}
-use Rattle.link_wires.specs.declared.edits.Edit.{Edit}
+use Rattle.rio_chars.specs.declared.edit.Edit.{Edit}
 use Rattle.link_machine.specs.Calls.{pump_notes}
 use Rattle.fabric_script.specs.declared.ports.PortRef.{PortRef}
-use Rattle.fabric_model.specs.Network.{port_of}
 use Rattle.fabric_model.proofs.Lists.{all-append}
-use Rattle.trace_lines.specs.Lines.{TraceLine}
 use Rattle.fabric_trace.specs.Blocks.{Asks, pumps}
-use Rattle.fabric_trace.specs.Fold.{seen}
-use Rattle.fabric_trace.specs.Known.{Seen, link_at}
 use Rattle.fabric_trace.specs.Rounds.{ServeNodes}
 use Rattle.fabric_trace.specs.Served.{face_in, IsCollect}
 use Rattle.fabric_trace.proofs.Rounds.Blocks.{by_test}
-use Rattle.lawful_traces.proofs.Gots.{GotsSome, AllGotSome, lines_some, sent_some}
 use Rattle.lawful_traces.proofs.GotsInBlocks.{some_by, takes_some, collected_some, link_some, joined_some, nodes_some}
 use Rattle.fabric_ask.specs.Asks.{CarryAll, CollectsAll, CollectRests, CollectGoes, CollectStops, CollectNodes, Handles, AskRound, holds_some, AskRounds, Unheld, most_rounds, IsAsk}
 use Rattle.fabric_ask.specs.Noise.{IsCarry, stirred}

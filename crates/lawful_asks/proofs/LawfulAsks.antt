@@ -1,20 +1,11 @@
 -- The lines of asks spell their texts, and no reason hits one.
-use Rattle.std.proofs.Common.{◌++◌, List, [], ◌∷◌, length, append-nil, refl, sym, ap, ◌∙◌}
-use Rattle.trace_lines.specs.Lines.{TraceLine, Begun, Stepped, Signed, Lacked, Ended, Undetected, steps_of}
+use Rattle.lawful_asks.proofs.Prelude.{◌++◌, List, [], ◌∷◌, length, append-nil, refl, sym, ap, ◌∙◌, TraceLine, Begun, Stepped, Signed, Lacked, Ended, Undetected, steps_of, seen_line, seen, Seen, Made, PartEnds, bare, set_up_all, begins, set_up_bare, EditsTold, AllGotSome, AsksAreLawful}
 use Rattle.fabric_model.specs.Steps.{Step}
-use Rattle.fabric_trace.specs.Fold.{seen_line, seen}
-use Rattle.fabric_trace.specs.Known.{Seen}
-use Rattle.fabric_trace.specs.Parts.{Made, PartEnds}
-use Rattle.fabric_trace.specs.Runs.{bare, set_up_all, begins}
 use Rattle.fabric_trace.proofs.Parts.Keeping.{steps_of-append}
 use Rattle.fabric_trace.proofs.Parts.Making.{one_part, made-append}
 use Rattle.fabric_trace.proofs.SetUps.Happening.{may_set_up}
-use Rattle.fabric_trace.proofs.SetUps.Starting.{set_up_bare}
-use Rattle.trace_check.proofs.Edits.{EditsTold}
 use Rattle.lawful_traces.proofs.Ending.{Closes, within_closes}
-use Rattle.lawful_traces.proofs.Gots.{AllGotSome}
 use Rattle.lawful_traces.proofs.Spelling.{made_spell}
-use Rattle.lawful_asks.specs.AskTexts.{AsksAreLawful}
 use Rattle.lawful_asks.proofs.AskLines.{asked_some}
 use Rattle.lawful_asks.proofs.Passing.{made_pass}
 

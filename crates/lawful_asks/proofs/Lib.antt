@@ -1,3 +1,4 @@
+mod Prelude
 mod Passing
 mod AskLines
 mod LawfulAsks

@@ -1,16 +1,10 @@
 -- No reason hits a line that is made of parts, if each edit is told as it is made.
-use Rattle.std.proofs.Common.{List, [], subst}
-use Rattle.fabric_model.specs.Network.{Network}
-use Rattle.trace_lines.specs.Lines.{TraceLine}
-use Rattle.fabric_trace.specs.Parts.{Made}
-use Rattle.fabric_trace.specs.Runs.{begins}
+use Rattle.lawful_asks.proofs.Prelude.{List, [], subst, Network, TraceLine, Made, begins, good_start, frees_allowed, EditsTold}
 use Rattle.fabric_trace.specs.SetUps.{IsSetUp}
 use Rattle.fabric_trace.specs.Allowance.{FreesAllowed}
 use Rattle.fabric_trace.specs.Owned.{AreOwned}
-use Rattle.fabric_trace.proofs.SetUps.Starting.{good_start, frees_allowed}
 use Rattle.fabric_trace.proofs.Shown.Sending.{made_owned}
 use Rattle.trace_check.specs.Checks.{PassAll}
-use Rattle.trace_check.proofs.Edits.{EditsTold}
 use Rattle.trace_check.proofs.Lawful.{line_passes}
 
 pub made_pass : (net : Network) (lines : List TraceLine) → IsSetUp net → Made (begins net) lines

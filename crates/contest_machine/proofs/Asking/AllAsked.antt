@@ -1,27 +1,10 @@
 -- After all turns an access along an open path is carried.
-use Rattle.std.proofs.Common.{◌≡◌, ◌≢◌, ℕ, ◌≤◌, Bool, false, List, [], ◌∷◌, length, Some, None, Contains, arith, inl, inr, subst, sym, refl, ap, ◌∙◌}
-use Rattle.std.proofs.lemmas.Option.{same_Some}
-use Rattle.fabric_script.specs.declared.ports.PortRef.{PortRef}
-use Rattle.fabric_map.specs.Topology.{Topology}
-use Rattle.fabric_map.specs.Routes.{AllRegisters}
-use Rattle.link_watch.specs.declared.side.Side.{Side}
-use Rattle.link_watch.specs.declared.side.Side.TheVariants.{A, B}
-use Rattle.host_enumerate.specs.declared.maint.Access.TheVariants.{Read, Write}
-use Rattle.contest_machine.specs.declared.stages.Asked.{Asked}
-use Rattle.contest_machine.specs.declared.stages.PendingWrite.{PendingWrite}
-use Rattle.contest_machine.specs.declared.stages.Stage.{Stage}
-use Rattle.contest_machine.specs.declared.stages.Stage.TheVariants.{Ask, Claim, Check, Test, Features, Information, Status, Free, Done, Lost}
-use Rattle.contest_machine.specs.Machine.{Walker, State, fresh, asked, wants_at, wants_with, wants}
-use Rattle.contest_machine.specs.Contest.{AreOwnWrites, IsMine}
-use Rattle.contest_machine.specs.Keeping.{IsNew}
-use Rattle.contest_machine.specs.Turns.{Both, walker_turned, turn_of, after_turns}
+use Rattle.contest_machine.proofs.Prelude.{◌≡◌, ◌≢◌, ℕ, ◌≤◌, Bool, false, List, [], ◌∷◌, length, Some, None, Contains, arith, inl, inr, subst, sym, refl, ap, ◌∙◌, same_Some, PortRef, Topology, AllRegisters, Side, A, B, Read, Write, Asked, PendingWrite, Stage, Ask, Claim, Check, Test, Features, Information, Status, Free, Done, Lost, Walker, State, fresh, asked, wants_at, wants_with, wants, AreOwnWrites, IsMine, IsNew, Both, walker_turned, turn_of, after_turns, walker_of, WantsAlong, IsCarried, OpenPathsCarry}
 use Rattle.contest_machine.proofs.Keeping.Apart.{turned_by}
-use Rattle.contest_machine.specs.Locks.{walker_of}
 use Rattle.contest_machine.proofs.Turns.Led.{IsLedAt}
 use Rattle.contest_machine.proofs.Numbering.Begins.{starter}
 use Rattle.contest_machine.proofs.Numbering.Coming.{IsOver, IsComing}
 use Rattle.contest_machine.proofs.Numbering.Whole.{HasCome, IsReady, ReadyFor, turn_ready, begun_ready}
-use Rattle.contest_machine.specs.Asking.{WantsAlong, IsCarried, OpenPathsCarry}
 use Rattle.contest_machine.proofs.Asking.Answering.{only}
 use Rattle.contest_machine.proofs.Asking.Guided.{AreOut, AreBehindHost, PathIs, IsGuided, step_guided}
 use Rattle.contest_machine.proofs.Asking.Carried.{along_carried, along_short}
@@ -123,16 +106,14 @@ ready_short before w o now ask ready guided on wanted = come ready.come
     own empty = let none = ap (λ (l : List ℕ). length l) empty in omega (arith, none)
 
     coming : IsComing w now → length ask.path ≤ 64
-    coming (inl over) =
-        absurd (over_asks w ask w.stage refl over ready.fair.first.led.1 on wanted)
+    coming (inl over) = absurd (over_asks w ask w.stage refl over ready.fair.first.led.1 on wanted)
     coming (inr (inl starting)) = own (start_own w w now ask starting.is mine wanted)
     coming (inr (inr along)) =
         along_short w now ready.fair.first.within mine along guided ask on wanted
 
     come : HasCome w now → length ask.path ≤ 64
     come (inl begun) = coming begun.1
-    come (inr new) =
-        own (start_own w (starter w.view w.id false Ask []) now ask new.0 mine wanted)
+    come (inr new) = own (start_own w (starter w.view w.id false Ask []) now ask new.0 mine wanted)
 
 -- ---- all turns
 

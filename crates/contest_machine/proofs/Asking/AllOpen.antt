@@ -1,37 +1,10 @@
 -- After all turns the path of the next access is open, and the access is carried.
-use Rattle.std.proofs.Common.{◌≡◌, ◌≢◌, ℕ, ◌+◌, ◌*◌, ◌≤◌, length, Bool, true, false, List, [], ◌∷◌, ◌++◌, Some, None, Contains, arith, ◌⊎◌, inl, inr, subst, sym, refl, ap, ◌∙◌, if◌then◌else◌}
-use Rattle.std.proofs.lemmas.List.Elements.{Contains-append_left, Contains-append_cases}
-use Rattle.std.proofs.lemmas.Option.{same_Some}
-use Rattle.fabric_script.specs.declared.ports.PortRef.{PortRef}
-use Rattle.maint_registers.specs.Devices.{Registers}
-use Rattle.maint_registers.specs.Routes.{next_port}
-use Rattle.fabric_map.specs.declared.map.Device.{Device}
-use Rattle.fabric_map.specs.Topology.{Topology, IsTopology, entered}
-use Rattle.fabric_map.specs.Routes.{AllRegisters}
-use Rattle.fabric_map.specs.Numbered.{paths_of}
-use Rattle.fabric_map.specs.Ways.{IsOpened}
-use Rattle.fabric_map.proofs.Growing.{node_at-entered}
-use Rattle.host_enumerate.specs.declared.maint.Access.TheVariants.{Read, Write}
-use Rattle.host_enumerate.specs.Underway.{AreOwnUntagged}
-use Rattle.link_watch.specs.declared.side.Side.{Side}
-use Rattle.link_watch.specs.declared.side.Side.TheVariants.{A, B}
-use Rattle.contest_machine.specs.declared.stages.Asked.{Asked}
-use Rattle.contest_machine.specs.declared.stages.PendingWrite.{PendingWrite}
-use Rattle.contest_machine.specs.declared.stages.Tried.{Tried}
-use Rattle.contest_machine.specs.declared.stages.Stage.{Stage}
-use Rattle.contest_machine.specs.declared.stages.Stage.TheVariants.{Ask, Claim, Check, Test, Features, Information, Status, Free, Done, Lost}
-use Rattle.contest_machine.specs.Machine.{Walker, State, fresh, kept, asked, last_path, status_asked, wants_at, wants_with, wants, stepped}
-use Rattle.contest_machine.specs.Contest.{Keeps, AreOwnWrites, IsMine, IsContest}
-use Rattle.contest_machine.specs.Keeping.{IsNew}
-use Rattle.contest_machine.specs.Turns.{is_locking, locked_on, walker_turned, Both, turn_of, after_turns}
+use Rattle.contest_machine.proofs.Prelude.{◌≡◌, ◌≢◌, ℕ, ◌+◌, ◌*◌, ◌≤◌, length, Bool, true, false, List, [], ◌∷◌, ◌++◌, Some, None, Contains, arith, ◌⊎◌, inl, inr, subst, sym, refl, ap, ◌∙◌, if◌then◌else◌, Contains-append_left, Contains-append_cases, same_Some, PortRef, Registers, next_port, Device, Topology, IsTopology, entered, AllRegisters, paths_of, IsOpened, node_at-entered, Read, Write, AreOwnUntagged, Side, A, B, Asked, PendingWrite, Tried, Stage, Ask, Claim, Check, Test, Features, Information, Status, Free, Done, Lost, Walker, State, fresh, kept, asked, last_path, status_asked, wants_at, wants_with, wants, stepped, Keeps, AreOwnWrites, IsMine, IsContest, IsNew, is_locking, locked_on, walker_turned, Both, turn_of, after_turns, AreBegun, walker_of, state_of, WantsBehind, IsCarried, PathsAreOpened, AccessesAreCarried}
 use Rattle.contest_machine.proofs.Keeping.Apart.{swap, turn_leaves_kept}
 use Rattle.contest_machine.proofs.Keeping.Lists.{Leads}
-use Rattle.contest_machine.specs.Going.{AreBegun}
-use Rattle.contest_machine.specs.Locks.{walker_of, state_of}
 use Rattle.contest_machine.proofs.Numbering.OnWay.{performed}
 use Rattle.contest_machine.proofs.Numbering.Performing.{performed-agree}
 use Rattle.contest_machine.proofs.Numbering.Whole.{IsSound, IsReady, ReadyFor, few_next, step_sound, sound_later, sound_first, turn_ready, begun_ready}
-use Rattle.contest_machine.specs.Asking.{WantsBehind, IsCarried, PathsAreOpened, AccessesAreCarried}
 use Rattle.contest_machine.proofs.Asking.AllAsked.{ready_carried, turn_guided, new_guided}
 use Rattle.contest_machine.proofs.Asking.Answering.{carried, open_after_write}
 use Rattle.contest_machine.proofs.Asking.Guided.{AreOutside, IsPast, IsGuided, step_guided}
@@ -324,15 +297,7 @@ module _ (w : Walker) (now : AllRegisters) (proper : IsTopology w.view) (mine : 
 
 pub free_or_not : (stage : Stage) → (stage ≡ Free) ⊎ (stage ≢ Free)
 free_or_not Free = inl refl
-free_or_not Ask = inr (λ e. cc)
-free_or_not Claim = inr (λ e. cc)
-free_or_not Check = inr (λ e. cc)
-free_or_not Test = inr (λ e. cc)
-free_or_not Features = inr (λ e. cc)
-free_or_not Information = inr (λ e. cc)
-free_or_not Status = inr (λ e. cc)
-free_or_not Done = inr (λ e. cc)
-free_or_not Lost = inr (λ e. cc)
+free_or_not _ = inr (λ e. cc)
 
 pub wanted_carried : (before : AllRegisters) (w o : Walker) (now : AllRegisters) (ask : Asked)
     (at : PortRef) → IsReady before w o now → IsGuided w → IsOpening w now → WantsBehind w ask at

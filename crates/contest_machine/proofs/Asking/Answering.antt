@@ -1,22 +1,6 @@
 -- An access along an open path is answered, and leaves it open.
-use Rattle.std.proofs.Common.{◌≡◌, ◌≢◌, ℕ, ◌-◌, ◌≤◌, List, [], ◌∷◌, ◌++◌, length, Some, Contains, arith, inr, inl, ◌⊎◌, subst, sym, refl, ap, ◌∙◌, length-append}
-use Rattle.fabric_script.specs.declared.ports.PortRef.{PortRef}
-use Rattle.fabric_script.specs.Ports.{port_at}
-use Rattle.fabric_map.specs.declared.map.Device.{Device}
-use Rattle.fabric_map.specs.Topology.{Topology, IsTopology, entered, node_at}
-use Rattle.fabric_map.specs.Walked.{Walked}
-use Rattle.fabric_map.specs.Routes.{AllRegisters, walk}
-use Rattle.fabric_map.specs.Numbered.{paths_of}
-use Rattle.fabric_map.specs.Ways.{IsOpened}
+use Rattle.contest_machine.proofs.Prelude.{◌≡◌, ◌≢◌, ℕ, ◌-◌, ◌≤◌, List, [], ◌∷◌, ◌++◌, length, Some, Contains, arith, inr, inl, ◌⊎◌, subst, sym, refl, ap, ◌∙◌, length-append, PortRef, port_at, Device, Topology, IsTopology, entered, node_at, Walked, AllRegisters, walk, paths_of, IsOpened, device_on, node_at-entered, Contains-cases, request_ends, answer_returns, Access, Write, after_access, answered, IsAnswered, IsUnmet, with_device-other}
 use Rattle.fabric_map.proofs.Fronts.{front_listed}
-use Rattle.fabric_map.proofs.Growing.{device_on, node_at-entered}
-use Rattle.fabric_map.proofs.Lists.{Contains-cases}
-use Rattle.fabric_map.proofs.Ways.{request_ends, answer_returns}
-use Rattle.host_enumerate.specs.declared.maint.Access.{Access}
-use Rattle.host_enumerate.specs.declared.maint.Access.TheVariants.{Write}
-use Rattle.host_enumerate.specs.Accesses.{after_access, answered, IsAnswered}
-use Rattle.host_enumerate.specs.Underway.{IsUnmet}
-use Rattle.host_enumerate.proofs.Frames.{with_device-other}
 use Rattle.contest_machine.proofs.Numbering.Leading.{opened-stays}
 
 -- the switches that a path passes are in the list

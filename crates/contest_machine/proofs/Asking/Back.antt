@@ -1,14 +1,5 @@
 -- A path that is tried does not lead back to the host.
-use Rattle.std.proofs.Common.{◌≡◌, ◌≢◌, ℕ, List, [], ◌∷◌, Some, sym, ap, ◌∙◌}
-use Rattle.std.proofs.lemmas.List.Elements.{All-contains}
-use Rattle.fabric_script.specs.declared.ports.PortRef.{PortRef}
-use Rattle.fabric_map.specs.declared.map.Device.{Device}
-use Rattle.fabric_map.specs.Topology.{Topology, IsTopology, entered}
-use Rattle.fabric_map.specs.Walked.{Before, Walked}
-use Rattle.fabric_map.specs.Numbered.{paths_of}
-use Rattle.fabric_map.proofs.Fronts.{not_before_empty}
-use Rattle.host_enumerate.proofs.Askable.{not_host-next, not_host-first}
-use Rattle.contest_machine.specs.declared.stages.Tried.{Tried}
+use Rattle.contest_machine.proofs.Prelude.{◌≡◌, ◌≢◌, ℕ, List, [], ◌∷◌, Some, sym, ap, ◌∙◌, All-contains, PortRef, Device, Topology, IsTopology, entered, Before, Walked, paths_of, not_before_empty, not_host-next, not_host-first, Tried}
 use Rattle.contest_machine.proofs.Numbering.Along.{IsHere}
 use Rattle.contest_machine.proofs.Numbering.Chained.{AreChained}
 use Rattle.contest_machine.proofs.Asking.Guided.{AreOut}

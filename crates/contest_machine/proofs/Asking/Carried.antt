@@ -1,34 +1,12 @@
 -- Each access of a walker that does not give up is carried, if its path is open.
-use Rattle.std.proofs.Common.{◌≡◌, ◌≢◌, ℕ, ◌+◌, ◌*◌, ◌≤◌, List, [], ◌∷◌, length, Some, None, Contains, arith, ◌⊎◌, inl, inr, subst, sym, refl, ap, ◌∙◌}
-use Rattle.std.proofs.lemmas.List.Elements.{Contains-append_cases, Contains-append_left}
-use Rattle.std.proofs.lemmas.Option.{same_Some}
-use Rattle.fabric_script.specs.declared.ports.PortRef.{PortRef}
-use Rattle.fabric_map.specs.Topology.{entered, node_at}
-use Rattle.fabric_map.specs.Walked.{Walked}
-use Rattle.fabric_map.specs.Routes.{AllRegisters}
-use Rattle.fabric_map.specs.Numbered.{paths_of}
-use Rattle.fabric_map.specs.Ways.{IsOpened}
-use Rattle.fabric_map.proofs.Fronts.{passed_listed}
-use Rattle.fabric_map.proofs.Growing.{device_on, node_at-entered}
-use Rattle.host_enumerate.specs.declared.maint.Access.{Access}
-use Rattle.host_enumerate.specs.declared.maint.Access.TheVariants.{Read, Write}
-use Rattle.host_enumerate.specs.Accesses.{after_access}
+use Rattle.contest_machine.proofs.Prelude.{◌≡◌, ◌≢◌, ℕ, ◌+◌, ◌*◌, ◌≤◌, List, [], ◌∷◌, length, Some, None, Contains, arith, ◌⊎◌, inl, inr, subst, sym, refl, ap, ◌∙◌, Contains-append_cases, Contains-append_left, same_Some, PortRef, entered, node_at, Walked, AllRegisters, paths_of, IsOpened, passed_listed, device_on, node_at-entered, Access, Read, Write, after_access, Asked, PendingWrite, Tried, Stage, Ask, Claim, Check, Test, Features, Information, Status, Free, Done, Lost, Walker, kept, fresh, asked, status_asked, wants_at, wants_with, wants, AreOwnWrites, Knows, IsMine, WalkIsBounded, IsBoundedAt, WalkerIsWithin, WantsAlong, IsCarried}
 use Rattle.host_enumerate.proofs.Opening.{open_after_read}
-use Rattle.contest_machine.specs.declared.stages.Asked.{Asked}
-use Rattle.contest_machine.specs.declared.stages.PendingWrite.{PendingWrite}
-use Rattle.contest_machine.specs.declared.stages.Tried.{Tried}
-use Rattle.contest_machine.specs.declared.stages.Stage.{Stage}
-use Rattle.contest_machine.specs.declared.stages.Stage.TheVariants.{Ask, Claim, Check, Test, Features, Information, Status, Free, Done, Lost}
-use Rattle.contest_machine.specs.Machine.{Walker, kept, fresh, asked, status_asked, wants_at, wants_with, wants}
 use Rattle.contest_machine.specs.declared.stages.Stage.TheVariants as stages
-use Rattle.contest_machine.specs.Contest.{AreOwnWrites, Knows, IsMine}
-use Rattle.contest_machine.specs.Within.{WalkIsBounded, IsBoundedAt, WalkerIsWithin}
 use Rattle.contest_machine.proofs.Turns.Spending.{few_kept, few_devices}
 use Rattle.contest_machine.proofs.Numbering.OnWay.{bound_at, IsApart}
 use Rattle.contest_machine.proofs.Numbering.Chained.{AreChained}
 use Rattle.contest_machine.proofs.Numbering.Along.{IsHere, IsHereAt, IsAlong, front_of, port_of, here_is}
 use Rattle.contest_machine.proofs.Numbering.Moving.{front_listed}
-use Rattle.contest_machine.specs.Asking.{WantsAlong, IsCarried}
 use Rattle.contest_machine.proofs.Asking.Guided.{AreOutside, IsPast, IsGuided}
 use Rattle.contest_machine.proofs.Asking.Answering.{only, PassesListed, PassesOthers, carried, open_after_write, listed_others, unmet_others}
 use Rattle.contest_machine.proofs.Asking.Back.{not_back}
@@ -109,8 +87,7 @@ module _ (w : Walker) (now : AllRegisters) (within : WalkerIsWithin w) (mine : I
 
   walked_at : (stage : Stage) → w.stage ≡ stage
       → Walked w.view paths (bound_at w stage)
-  walked_at stage is =
-      subst (λ s. Walked w.view paths (bound_at w s)) is along.way.underway.walked
+  walked_at stage is = subst (λ s. Walked w.view paths (bound_at w s)) is along.way.underway.walked
 
   -- the path that is tried passes switches of the list
   path_passes : Walked w.view paths w.path → IsHere w.path w.tried

@@ -1,24 +1,7 @@
 -- What a walker alone shows at all times: no port of entry is tried, and nothing behind the host is
 -- written to the host.
-use Rattle.std.proofs.Common.{◌≡◌, ◌≢◌, ℕ, ◌+◌, ◌*◌, ◌/◌, ◌%◌, ◌==◌, zero, suc, nat_lt, Bool, true, false, eqb, List, [], ◌∷◌, ◌++◌, Option, Some, None, arith, ◌⊎◌, inl, inr, subst, sym, refl, ap, if◌then◌else◌}
-use Rattle.std.proofs.lemmas.Bool.{eqb-true, eqb-false}
-use Rattle.fabric_script.specs.declared.ports.PortRef.{PortRef}
-use Rattle.fabric_map.specs.declared.map.Kind.{Kind}
-use Rattle.fabric_map.specs.declared.map.Kind.TheVariants.{Endpoint, Switch}
-use Rattle.fabric_map.specs.declared.map.Device.{Device}
-use Rattle.fabric_map.specs.Topology.{entered}
-use Rattle.fabric_map.specs.Routes.{AllRegisters}
-use Rattle.fabric_map.specs.Numbered.{toward}
-use Rattle.host_enumerate.specs.Accesses.{answered}
-use Rattle.host_enumerate.specs.Underway.{id_after, met_as}
-use Rattle.fabric_map.specs.Walked.{onward}
+use Rattle.contest_machine.proofs.Prelude.{◌≡◌, ◌≢◌, ℕ, ◌+◌, ◌*◌, ◌/◌, ◌%◌, ◌==◌, zero, suc, nat_lt, Bool, true, false, eqb, List, [], ◌∷◌, ◌++◌, Option, Some, None, arith, ◌⊎◌, inl, inr, subst, sym, refl, ap, if◌then◌else◌, eqb-true, eqb-false, PortRef, Kind, Endpoint, Switch, Device, entered, AllRegisters, toward, answered, id_after, met_as, onward, Asked, PendingWrite, Tried, Stage, Ask, Claim, Check, Test, Features, Information, Status, Free, Done, Lost, Walker, write, entry_set, route_of, route_pending, routes_to, cleared_below, last_path, but_last, freeing, port_after, gone_on, taken, judged, numbered, switch_set_up, outward, wants, settled, walker_told, told_at, reached, reaches, stepped}
 use Rattle.contest_machine.proofs.Numbering.Along.{not_empty}
-use Rattle.contest_machine.specs.declared.stages.Asked.{Asked}
-use Rattle.contest_machine.specs.declared.stages.PendingWrite.{PendingWrite}
-use Rattle.contest_machine.specs.declared.stages.Tried.{Tried}
-use Rattle.contest_machine.specs.declared.stages.Stage.{Stage}
-use Rattle.contest_machine.specs.declared.stages.Stage.TheVariants.{Ask, Claim, Check, Test, Features, Information, Status, Free, Done, Lost}
-use Rattle.contest_machine.specs.Machine.{Walker, write, entry_set, route_of, route_pending, routes_to, cleared_below, last_path, but_last, freeing, port_after, gone_on, taken, judged, numbered, switch_set_up, outward, wants, settled, walker_told, told_at, reached, reaches, stepped}
 
 -- the port that is tried is not that of entry, and the switch is not the host
 abbrev pub AreOut : List Tried → Type 0
@@ -135,8 +118,7 @@ gone_guided w (top ∷ rest) out all todo past =
           stage = Status;
         }
         else gone_on w rest)
-    go true on =
-        ((other (eqb (top.port + 1) top.entry) refl, out.1, out.2), all, todo, tt, past)
+    go true on = ((other (eqb (top.port + 1) top.entry) refl, out.1, out.2), all, todo, tt, past)
     go false on = on tt
 
 judged_guided : (w : Walker) (stage : Stage) (lock : ℕ) → AreOut w.tried → AreBehindHost w.devices
@@ -262,47 +244,30 @@ settled_guided : (w : Walker) (rest : List PendingWrite) (stage : Stage) (path :
     → AreOut w.tried → AreBehindHost w.devices → (path ≡ []) ⊎ AreOutside rest
     → (stage ≡ Information → path ≢ []) → IsPast w.devices path
     → IsGuided (settled (record w { stage = stage; path = path }) rest stage path)
-settled_guided w [] Ask path out all todo known past =
-    (out, all, todo, tt, past)
-settled_guided w [] Claim path out all todo known past =
-    (out, all, todo, tt, past)
-settled_guided w [] Check path out all todo known past =
-    (out, all, todo, tt, past)
-settled_guided w [] Test path out all todo known past =
-    (out, all, todo, tt, past)
+settled_guided w [] Ask path out all todo known past = (out, all, todo, tt, past)
+settled_guided w [] Claim path out all todo known past = (out, all, todo, tt, past)
+settled_guided w [] Check path out all todo known past = (out, all, todo, tt, past)
+settled_guided w [] Test path out all todo known past = (out, all, todo, tt, past)
 settled_guided w [] Features [] out all todo known past = numbered_guided w [] Features out all
 settled_guided w [] Features (x ∷ path) out all todo known past =
     (out, all, todo, λ same. absurd (cc), past)
-settled_guided w [] Information path out all todo known past =
-    (out, all, todo, known refl, past)
-settled_guided w [] Status path out all todo known past =
-    (out, all, todo, tt, past)
-settled_guided w [] Free path out all todo known past =
-    (out, all, todo, tt, past)
-settled_guided w [] Done path out all todo known past =
-    (out, all, todo, tt, past)
-settled_guided w [] Lost path out all todo known past =
-    (out, all, todo, tt, past)
-settled_guided w (q ∷ rest) Ask path out all todo known past =
-    (out, all, todo, tt, past)
-settled_guided w (q ∷ rest) Claim path out all todo known past =
-    (out, all, todo, tt, past)
-settled_guided w (q ∷ rest) Check path out all todo known past =
-    (out, all, todo, tt, past)
-settled_guided w (q ∷ rest) Test path out all todo known past =
-    (out, all, todo, tt, past)
+settled_guided w [] Information path out all todo known past = (out, all, todo, known refl, past)
+settled_guided w [] Status path out all todo known past = (out, all, todo, tt, past)
+settled_guided w [] Free path out all todo known past = (out, all, todo, tt, past)
+settled_guided w [] Done path out all todo known past = (out, all, todo, tt, past)
+settled_guided w [] Lost path out all todo known past = (out, all, todo, tt, past)
+settled_guided w (q ∷ rest) Ask path out all todo known past = (out, all, todo, tt, past)
+settled_guided w (q ∷ rest) Claim path out all todo known past = (out, all, todo, tt, past)
+settled_guided w (q ∷ rest) Check path out all todo known past = (out, all, todo, tt, past)
+settled_guided w (q ∷ rest) Test path out all todo known past = (out, all, todo, tt, past)
 settled_guided w (q ∷ rest) Features path out all todo known past =
     (out, all, todo, λ same none. cc, past)
 settled_guided w (q ∷ rest) Information path out all todo known past =
     (out, all, todo, known refl, past)
-settled_guided w (q ∷ rest) Status path out all todo known past =
-    (out, all, todo, tt, past)
-settled_guided w (q ∷ rest) Free path out all todo known past =
-    (out, all, todo, tt, past)
-settled_guided w (q ∷ rest) Done path out all todo known past =
-    (out, all, todo, tt, past)
-settled_guided w (q ∷ rest) Lost path out all todo known past =
-    (out, all, todo, tt, past)
+settled_guided w (q ∷ rest) Status path out all todo known past = (out, all, todo, tt, past)
+settled_guided w (q ∷ rest) Free path out all todo known past = (out, all, todo, tt, past)
+settled_guided w (q ∷ rest) Done path out all todo known past = (out, all, todo, tt, past)
+settled_guided w (q ∷ rest) Lost path out all todo known past = (out, all, todo, tt, past)
 
 -- whatever it is told
 told_guided : (w : Walker) (value : ℕ) → IsGuided w → IsGuided (walker_told w value)

@@ -1,24 +1,5 @@
 -- The host keeps its ID, which the writes that are left do not change.
-use Rattle.std.proofs.Common.{◌≡◌, ◌≢◌, ℕ, List, [], ◌∷◌, AllPairs, Option, Some, None, Contains, arith, ◌⊎◌, inl, inr, subst, sym, refl, ap, ◌∙◌}
-use Rattle.std.proofs.lemmas.List.Elements.{All-contains}
-use Rattle.fabric_script.specs.declared.ports.PortRef.{PortRef}
-use Rattle.fabric_map.specs.declared.map.Kind.{Kind}
-use Rattle.fabric_map.specs.declared.map.Kind.TheVariants.{Endpoint, Switch}
-use Rattle.fabric_map.specs.declared.map.Device.{Device}
-use Rattle.fabric_map.specs.Topology.{Topology, entered}
-use Rattle.fabric_map.specs.Walked.{Before}
-use Rattle.fabric_map.specs.Routes.{AllRegisters}
-use Rattle.fabric_map.specs.Numbered.{paths_of, AreDescribed, HasBaseId}
-use Rattle.fabric_map.proofs.Fronts.{not_before_empty}
-use Rattle.fabric_map.proofs.Growing.{path_listed, host-first, node_at-entered}
-use Rattle.fabric_map.proofs.Lists.{Contains-cases, AllPairs-first}
-use Rattle.host_enumerate.specs.declared.maint.Access.TheVariants.{Write}
-use Rattle.host_enumerate.specs.Accesses.{after_access}
-use Rattle.host_enumerate.specs.Underway.{IsUnderway}
-use Rattle.host_enumerate.proofs.Frames.{with_device-other}
-use Rattle.host_enumerate.proofs.Meeting.{IsMember}
-use Rattle.contest_machine.specs.declared.stages.PendingWrite.{PendingWrite}
-use Rattle.contest_machine.specs.Contest.{AreOwnWrites}
+use Rattle.contest_machine.proofs.Prelude.{◌≡◌, ◌≢◌, ℕ, List, [], ◌∷◌, AllPairs, Option, Some, None, Contains, arith, ◌⊎◌, inl, inr, subst, sym, refl, ap, ◌∙◌, All-contains, PortRef, Kind, Endpoint, Switch, Device, Topology, entered, Before, AllRegisters, paths_of, AreDescribed, HasBaseId, not_before_empty, path_listed, host-first, node_at-entered, Contains-cases, AllPairs-first, Write, after_access, IsUnderway, with_device-other, IsMember, PendingWrite, AreOwnWrites}
 use Rattle.contest_machine.proofs.Numbering.OnWay.{one_performed, performed}
 use Rattle.contest_machine.proofs.Asking.Guided.{AreOutside}
 

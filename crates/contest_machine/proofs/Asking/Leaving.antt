@@ -1,31 +1,6 @@
 -- A walker that gives up opens the way to the last device that it keeps: each write finds its own
 -- way open, and then the whole way is.
-use Rattle.std.proofs.Common.{◌≡◌, ◌≢◌, ℕ, ◌<◌, ◌≤◌, true, List, [], ◌∷◌, ◌++◌, Option, Some, None, Contains, arith, ◌⊎◌, inl, inr, subst, sym, refl, ap, ◌∙◌, append_assoc, unwrap_or}
-use Rattle.std.proofs.lemmas.Bool.{cases_eq}
-use Rattle.std.proofs.lemmas.Option.{same_Some}
-use Rattle.fabric_script.specs.declared.ports.PortRef.{PortRef}
-use Rattle.maint_registers.specs.Devices.{Registers, IsDevice, is_switch}
-use Rattle.maint_registers.specs.Routes.{next_port}
-use Rattle.fabric_map.specs.declared.map.Kind.{Kind}
-use Rattle.fabric_map.specs.declared.map.Kind.TheVariants.{Endpoint, Switch}
-use Rattle.fabric_map.specs.declared.map.Device.{Device}
-use Rattle.fabric_map.specs.Topology.{Topology, IsTopology, entered}
-use Rattle.fabric_map.specs.Walked.{Before}
-use Rattle.fabric_map.specs.Routes.{AllRegisters}
-use Rattle.fabric_map.specs.Fitting.{Fits}
-use Rattle.fabric_map.specs.Numbered.{paths_of, toward}
-use Rattle.fabric_map.proofs.Branches.{toward-further, further_from_toward}
-use Rattle.fabric_map.proofs.Few.{entered-inside}
-use Rattle.fabric_map.proofs.Growing.{device_on, node_at-entered}
-use Rattle.fabric_map.proofs.Lists.{Contains-first, Contains-rest, Contains-cases}
-use Rattle.fabric_map.proofs.Order.{further-not_less}
-use Rattle.host_enumerate.specs.Accesses.{registers_with}
-use Rattle.host_enumerate.specs.Setting.{with_entry}
-use Rattle.host_enumerate.proofs.Frames.{with_device-at, with_device-other}
-use Rattle.host_enumerate.proofs.Keeping.{next-with_entry}
-use Rattle.host_enumerate.proofs.Routing.{entry_sends}
-use Rattle.contest_machine.specs.declared.stages.PendingWrite.{PendingWrite}
-use Rattle.contest_machine.specs.Machine.{entry_set, route_of, route_pending, routes_to}
+use Rattle.contest_machine.proofs.Prelude.{◌≡◌, ◌≢◌, ℕ, ◌<◌, ◌≤◌, true, List, [], ◌∷◌, ◌++◌, Option, Some, None, Contains, arith, ◌⊎◌, inl, inr, subst, sym, refl, ap, ◌∙◌, append_assoc, unwrap_or, cases_eq, same_Some, PortRef, Registers, is_switch, next_port, Kind, Endpoint, Switch, Device, Topology, IsTopology, entered, Before, AllRegisters, Fits, paths_of, toward, toward-further, further_from_toward, entered-inside, device_on, node_at-entered, Contains-first, Contains-rest, Contains-cases, further-not_less, registers_with, with_entry, with_device-at, with_device-other, next-with_entry, entry_sends, PendingWrite, entry_set, route_of, route_pending, routes_to}
 use Rattle.contest_machine.proofs.Numbering.OnWay.{performed}
 use Rattle.contest_machine.proofs.Numbering.Leading.{performed-append}
 use Rattle.contest_machine.proofs.Numbering.Settling.{performed-one, after-entry}

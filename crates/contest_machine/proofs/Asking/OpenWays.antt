@@ -1,24 +1,6 @@
 -- Which ways are open to a walker, and what writes leave of them.
-use Rattle.std.proofs.Common.{◌≡◌, ◌≢◌, ℕ, List, [], ◌∷◌, ◌++◌, Option, Some, None, Contains, ◌⊎◌, inl, inr, subst, sym, refl, ap, ◌∙◌, append_assoc, unwrap_or}
-use Rattle.std.proofs.lemmas.Bool.{cases_eq}
-use Rattle.fabric_script.specs.declared.ports.PortRef.{PortRef}
-use Rattle.maint_registers.specs.Devices.{Registers}
-use Rattle.maint_registers.specs.Routes.{next_port}
-use Rattle.maint_registers.proofs.AccessLaws.{lock-written, tag-written}
+use Rattle.contest_machine.proofs.Prelude.{◌≡◌, ◌≢◌, ℕ, List, [], ◌∷◌, ◌++◌, Option, Some, None, Contains, ◌⊎◌, inl, inr, subst, sym, refl, ap, ◌∙◌, append_assoc, unwrap_or, cases_eq, PortRef, Registers, next_port, lock-written, tag-written, Topology, entered, AllRegisters, Fits, paths_of, IsOpened, node_at-entered, Write, after_access, answered, registers_with, opened-empty, opened-first, never_empty, never_single, with_device-at, with_device-other, opened-front, PendingWrite, AreOwnWrites}
 use Rattle.fabric_map.specs.declared.map.Device as map
-use Rattle.fabric_map.specs.Topology.{Topology, entered}
-use Rattle.fabric_map.specs.Routes.{AllRegisters}
-use Rattle.fabric_map.specs.Fitting.{Fits}
-use Rattle.fabric_map.specs.Numbered.{paths_of}
-use Rattle.fabric_map.specs.Ways.{IsOpened}
-use Rattle.fabric_map.proofs.Growing.{node_at-entered}
-use Rattle.host_enumerate.specs.declared.maint.Access.TheVariants.{Write}
-use Rattle.host_enumerate.specs.Accesses.{after_access, answered, registers_with}
-use Rattle.host_enumerate.proofs.Askable.{opened-empty, opened-first, never_empty, never_single}
-use Rattle.host_enumerate.proofs.Frames.{with_device-at, with_device-other}
-use Rattle.host_enumerate.proofs.Routing.{opened-front}
-use Rattle.contest_machine.specs.declared.stages.PendingWrite.{PendingWrite}
-use Rattle.contest_machine.specs.Contest.{AreOwnWrites}
 use Rattle.contest_machine.proofs.Keeping.Lists.{Leads}
 use Rattle.contest_machine.proofs.Numbering.OnWay.{one_performed, performed}
 use Rattle.contest_machine.proofs.Numbering.Leading.{opened-stays}

@@ -1,19 +1,5 @@
 -- What a walker leaves open at each stage, said of the registers as its writes will make them.
-use Rattle.std.proofs.Common.{◌≡◌, ◌≢◌, ℕ, ◌+◌, ◌<◌, nat_lt, Bool, true, false, List, [], ◌∷◌, Option, Some, None, Contains, length, subst, if◌then◌else◌}
-use Rattle.fabric_script.specs.declared.ports.PortRef.{PortRef}
-use Rattle.fabric_map.specs.declared.map.Device.{Device}
-use Rattle.fabric_map.specs.Topology.{Topology, IsTopology, entered}
-use Rattle.fabric_map.specs.Walked.{onward}
-use Rattle.fabric_map.specs.Routes.{AllRegisters}
-use Rattle.fabric_map.specs.Fitting.{Fits}
-use Rattle.fabric_map.specs.Numbered.{paths_of}
-use Rattle.fabric_map.proofs.Lists.{Contains-first}
-use Rattle.host_enumerate.specs.declared.maint.Access.TheVariants.{Write}
-use Rattle.host_enumerate.specs.Accesses.{after_access}
-use Rattle.contest_machine.specs.declared.stages.Tried.{Tried}
-use Rattle.contest_machine.specs.declared.stages.Stage.{Stage}
-use Rattle.contest_machine.specs.declared.stages.Stage.TheVariants.{Ask, Claim, Check, Test, Features, Information, Status, Free, Done, Lost}
-use Rattle.contest_machine.specs.Machine.{Walker, write, last_path, freeing, port_after, gone_on, taken}
+use Rattle.contest_machine.proofs.Prelude.{◌≡◌, ◌≢◌, ℕ, ◌+◌, ◌<◌, nat_lt, Bool, true, false, List, [], ◌∷◌, Option, Some, None, Contains, length, subst, if◌then◌else◌, PortRef, Device, Topology, IsTopology, entered, onward, AllRegisters, Fits, paths_of, Contains-first, Write, after_access, Tried, Stage, Ask, Claim, Check, Test, Features, Information, Status, Free, Done, Lost, Walker, write, last_path, freeing, port_after, gone_on, taken}
 use Rattle.contest_machine.proofs.Numbering.OnWay.{one_performed, performed}
 use Rattle.contest_machine.proofs.Numbering.Along.{IsHere}
 use Rattle.contest_machine.proofs.Numbering.Chained.{AreChained}

@@ -1,22 +1,7 @@
 -- Whatever a walker asks next is asked of a device, and is carried there and back.
-use Rattle.std.proofs.Common.{◌≡◌, ◌≢◌, ℕ, ◌+◌, ◌*◌, ◌≤◌, List, [], ◌∷◌, length, Option, Some, None, IsSome, option_map, Contains, ◌⊎◌, inl, inr, subst, refl}
-use Rattle.std.proofs.lemmas.List.Elements.{Contains-append_left}
-use Rattle.std.proofs.lemmas.Option.{same_Some}
-use Rattle.fabric_script.specs.declared.ports.PortRef.{PortRef}
-use Rattle.fabric_map.specs.Topology.{entered}
-use Rattle.fabric_map.specs.Routes.{AllRegisters}
-use Rattle.host_enumerate.specs.declared.maint.Access.TheVariants.{Read, Write}
-use Rattle.contest_machine.specs.declared.stages.Asked.{Asked}
-use Rattle.contest_machine.specs.declared.stages.PendingWrite.{PendingWrite}
-use Rattle.contest_machine.specs.declared.stages.Tried.{Tried}
-use Rattle.contest_machine.specs.declared.stages.Stage.{Stage}
-use Rattle.contest_machine.specs.declared.stages.Stage.TheVariants.{Ask, Claim, Check, Test, Features, Information, Status, Free, Done, Lost}
-use Rattle.contest_machine.specs.Machine.{Walker, kept, asked, last_path, status_asked, wants_at, wants_with, wants}
-use Rattle.contest_machine.specs.Contest.{AreOwnWrites, IsMine}
-use Rattle.contest_machine.specs.Within.{WalkerIsWithin}
+use Rattle.contest_machine.proofs.Prelude.{◌≡◌, ◌≢◌, ℕ, ◌+◌, ◌*◌, ◌≤◌, List, [], ◌∷◌, length, Option, Some, None, IsSome, option_map, Contains, ◌⊎◌, inl, inr, subst, refl, Contains-append_left, same_Some, PortRef, entered, AllRegisters, Read, Write, Asked, PendingWrite, Tried, Stage, Ask, Claim, Check, Test, Features, Information, Status, Free, Done, Lost, Walker, kept, asked, last_path, status_asked, wants_at, wants_with, wants, AreOwnWrites, IsMine, WalkerIsWithin, IsCarried}
 use Rattle.contest_machine.proofs.Turns.Led.{AreAtSwitches, IsLedAt, IsLed}
 use Rattle.contest_machine.proofs.Numbering.Whole.{IsReady}
-use Rattle.contest_machine.specs.Asking.{IsCarried}
 use Rattle.contest_machine.proofs.Asking.AllAsked.{ready_short}
 use Rattle.contest_machine.proofs.Asking.AllOpen.{leaving_short, free_or_not, wanted_carried}
 use Rattle.contest_machine.proofs.Asking.Guided.{IsGuided}
@@ -56,8 +41,7 @@ module _ (w : Walker) (now : AllRegisters) (within : WalkerIsWithin w) (mine : I
       one (asked w.path (Read 0x6c)) ask wanted (some_at (entered w.view w.path) at.0)
   stage_leads Features at ask wanted =
       one (asked w.path (Read 0x10)) ask wanted (some_at (entered w.view w.path) at.0)
-  stage_leads Information at ask wanted =
-      one (asked w.path (Read 0x14)) ask wanted (at.0.0, at.0.2)
+  stage_leads Information at ask wanted = one (asked w.path (Read 0x14)) ask wanted (at.0.0, at.0.2)
   stage_leads Status some ask wanted = top w.tried led.0 wanted
     where
       top : (tried : List Tried) → AreAtSwitches w.view tried → status_asked tried ≡ Some ask

@@ -1,29 +1,5 @@
 -- Each access of a walker leaves open what it asks next.
-use Rattle.std.proofs.Common.{◌≡◌, ◌≢◌, ℕ, ◌+◌, ◌*◌, ◌/◌, ◌%◌, ◌≤◌, ◌<◌, nat_lt, Bool, true, false, eqb, List, [], ◌∷◌, ◌++◌, Option, Some, None, ◌⊎◌, inl, inr, subst, sym, refl, ap, ◌∙◌, if◌then◌else◌, unwrap_or}
-use Rattle.std.proofs.lemmas.Bool.{cases_eq, eqb-true, eqb-false}
-use Rattle.std.proofs.lemmas.Option.{same_Some}
-use Rattle.fabric_script.specs.declared.ports.PortRef.{PortRef}
-use Rattle.fabric_script.specs.Ports.{port_at}
-use Rattle.maint_registers.specs.Devices.{Registers, IsDevice, is_switch}
-use Rattle.maint_registers.specs.Routes.{next_port}
-use Rattle.maint_registers.proofs.AccessLaws.{lock-written}
-use Rattle.maint_registers.proofs.SameLaws.{same_device}
-use Rattle.fabric_map.specs.Topology.{IsTopology, device_ports, entered}
-use Rattle.fabric_map.specs.Routes.{AllRegisters}
-use Rattle.fabric_map.specs.Fitting.{Fits}
-use Rattle.fabric_map.proofs.Few.{entered-inside}
-use Rattle.fabric_map.proofs.Growing.{listed-switch, node_at-entered}
-use Rattle.host_enumerate.specs.declared.maint.Access.TheVariants.{Read, Write}
-use Rattle.host_enumerate.specs.Accesses.{answered, after_access}
-use Rattle.host_enumerate.specs.Underway.{IsUnmet, IsUnderway}
-use Rattle.host_enumerate.proofs.Frames.{with_device-at, with_device-other}
-use Rattle.host_enumerate.proofs.Keeping.{underway-same, next-home}
-use Rattle.contest_machine.specs.declared.stages.Asked.{Asked}
-use Rattle.contest_machine.specs.declared.stages.PendingWrite.{PendingWrite}
-use Rattle.contest_machine.specs.declared.stages.Tried.{Tried}
-use Rattle.contest_machine.specs.declared.stages.Stage.{Stage}
-use Rattle.contest_machine.specs.declared.stages.Stage.TheVariants.{Ask, Claim, Check, Test, Features, Information, Status, Free, Done, Lost}
-use Rattle.contest_machine.specs.Machine.{Walker, asked, last_path, but_last, freeing, gone_on, taken, judged, numbered, switch_set_up, outward, settled, walker_told, told_at, reached, stepped}
+use Rattle.contest_machine.proofs.Prelude.{◌≡◌, ◌≢◌, ℕ, ◌+◌, ◌*◌, ◌/◌, ◌%◌, ◌≤◌, ◌<◌, nat_lt, Bool, true, false, eqb, List, [], ◌∷◌, ◌++◌, Option, Some, None, ◌⊎◌, inl, inr, subst, sym, refl, ap, ◌∙◌, if◌then◌else◌, unwrap_or, cases_eq, eqb-true, eqb-false, same_Some, PortRef, port_at, Registers, IsDevice, next_port, lock-written, same_device, IsTopology, device_ports, entered, AllRegisters, Fits, entered-inside, listed-switch, node_at-entered, Read, Write, answered, after_access, IsUnmet, IsUnderway, with_device-at, with_device-other, underway-same, next-home, Asked, PendingWrite, Tried, Stage, Ask, Claim, Check, Test, Features, Information, Status, Free, Done, Lost, Walker, asked, last_path, but_last, freeing, gone_on, taken, judged, numbered, switch_set_up, outward, settled, walker_told, told_at, reached, stepped}
 use Rattle.contest_machine.proofs.Keeping.Reading.{read-same, lock_told}
 use Rattle.contest_machine.proofs.Keeping.Stepped.{at_stage}
 use Rattle.contest_machine.proofs.Turns.Led.{IsLed}

@@ -1,32 +1,5 @@
 -- A walker that takes in an endpoint or a switch, or goes behind a port, leaves its way open.
-use Rattle.std.proofs.Common.{◌≡◌, ◌≢◌, ℕ, ◌+◌, ◌*◌, ◌%◌, ◌≤◌, ◌<◌, Bool, true, false, eqb, List, [], ◌∷◌, ◌++◌, Option, Some, None, Contains, length, arith, ◌⊎◌, inl, inr, subst, sym, refl, ap, ◌∙◌, if◌then◌else◌, unwrap_or}
-use Rattle.std.proofs.lemmas.Bool.{eqb-true, eqb-false}
-use Rattle.std.proofs.lemmas.List.Elements.{Contains-append_left}
-use Rattle.fabric_script.specs.declared.ports.PortRef.{PortRef}
-use Rattle.maint_registers.specs.Devices.{is_switch}
-use Rattle.maint_registers.specs.Routes.{next_port}
-use Rattle.maint_registers.proofs.AccessLaws.{select-written}
-use Rattle.fabric_map.specs.declared.map.Kind.{Kind}
-use Rattle.fabric_map.specs.declared.map.Kind.TheVariants.{Endpoint, Switch}
-use Rattle.fabric_map.specs.declared.map.Device.{Device}
-use Rattle.fabric_map.specs.Topology.{Topology, entered}
-use Rattle.fabric_map.specs.Routes.{AllRegisters}
-use Rattle.fabric_map.specs.Numbered.{paths_of, toward}
-use Rattle.fabric_map.proofs.Branches.{further_from_toward}
-use Rattle.fabric_map.proofs.Growing.{paths_of-push}
-use Rattle.host_enumerate.specs.declared.maint.Access.TheVariants.{Write}
-use Rattle.host_enumerate.specs.Accesses.{after_access, answered, registers_with}
-use Rattle.host_enumerate.specs.Setting.{with_entry}
-use Rattle.host_enumerate.specs.Underway.{id_after, met_as}
-use Rattle.host_enumerate.proofs.Askable.{split-onward, opened-onward}
-use Rattle.host_enumerate.proofs.Frames.{with_device-at}
-use Rattle.host_enumerate.proofs.Keeping.{next-with_entry}
-use Rattle.host_enumerate.proofs.Routing.{entry_sends, opened-entry, sends_is_switch, enters_before}
-use Rattle.contest_machine.specs.declared.stages.PendingWrite.{PendingWrite}
-use Rattle.contest_machine.specs.declared.stages.Tried.{Tried}
-use Rattle.contest_machine.specs.declared.stages.Stage.{Stage}
-use Rattle.contest_machine.specs.declared.stages.Stage.TheVariants.{Information, Status}
-use Rattle.contest_machine.specs.Machine.{Walker, write, entry_set, route_of, route_pending, routes_to, home_set, numbered, switch_set_up, outward}
+use Rattle.contest_machine.proofs.Prelude.{◌≡◌, ◌≢◌, ℕ, ◌+◌, ◌*◌, ◌%◌, ◌≤◌, ◌<◌, Bool, true, false, eqb, List, [], ◌∷◌, ◌++◌, Option, Some, None, Contains, length, arith, ◌⊎◌, inl, inr, subst, sym, refl, ap, ◌∙◌, if◌then◌else◌, unwrap_or, eqb-true, eqb-false, Contains-append_left, PortRef, is_switch, next_port, select-written, Kind, Endpoint, Switch, Device, Topology, entered, AllRegisters, paths_of, toward, further_from_toward, paths_of-push, Write, after_access, answered, registers_with, with_entry, id_after, met_as, split-onward, opened-onward, with_device-at, next-with_entry, entry_sends, opened-entry, sends_is_switch, enters_before, PendingWrite, Tried, Stage, Information, Status, Walker, write, entry_set, route_of, route_pending, routes_to, home_set, numbered, switch_set_up, outward}
 use Rattle.contest_machine.proofs.Numbering.OnWay.{one_performed, performed}
 use Rattle.contest_machine.proofs.Numbering.Along.{IsHere}
 use Rattle.contest_machine.proofs.Numbering.Joining.{at-home}

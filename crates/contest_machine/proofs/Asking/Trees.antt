@@ -1,30 +1,7 @@
 -- The devices that a walker has still to free: a tree of paths, whose switches send home.
-use Rattle.std.proofs.Common.{◌≡◌, ◌≢◌, ℕ, ◌<◌, ◌≤◌, List, [], ◌∷◌, ◌++◌, length, AllPairs, Option, Some, None, Contains, unwrap_or, arith, ◌⊎◌, inl, inr, subst, sym, refl, ap, ◌∙◌, if◌then◌else◌, ne_eqb}
-use Rattle.std.specs.Option.{option_and_then}
-use Rattle.std.proofs.lemmas.List.Elements.{All-contains, Contains-append_right, Contains-append_cases}
-use Rattle.std.proofs.lemmas.Option.{same_Some}
-use Rattle.fabric_script.specs.declared.ports.PortRef.{PortRef}
-use Rattle.fabric_script.specs.Ports.{port_at}
-use Rattle.maint_registers.specs.Routes.{next_port}
-use Rattle.fabric_map.specs.declared.map.Kind.{Kind}
-use Rattle.fabric_map.specs.declared.map.Kind.TheVariants.{Endpoint, Switch}
-use Rattle.fabric_map.specs.declared.map.Device.{Device}
-use Rattle.fabric_map.specs.Topology.{Topology, behind_port, along, ports_followed, entered, node_at}
-use Rattle.fabric_map.specs.Walked.{Before}
-use Rattle.fabric_map.specs.Routes.{AllRegisters}
-use Rattle.fabric_map.specs.Fitting.{Fits}
-use Rattle.fabric_map.specs.Numbered.{paths_of, IsKindAt}
+use Rattle.contest_machine.proofs.Prelude.{◌≡◌, ◌≢◌, ℕ, ◌<◌, ◌≤◌, List, [], ◌∷◌, ◌++◌, length, AllPairs, Option, Some, None, Contains, unwrap_or, arith, ◌⊎◌, inl, inr, subst, sym, refl, ap, ◌∙◌, if◌then◌else◌, ne_eqb, option_and_then, All-contains, Contains-append_right, Contains-append_cases, same_Some, PortRef, port_at, next_port, Kind, Endpoint, Switch, Device, Topology, behind_port, along, ports_followed, entered, node_at, Before, AllRegisters, Fits, paths_of, IsKindAt, path_listed, device_on, described-listed, node_at-entered, along-append, further-not_less, Contains-first, Contains-rest, Contains-cases, AllPairs-first, AllPairs-rest, behind-link, followed-switch, IsUnderway, next-home, IsMember, last_path, but_last}
 use Rattle.fabric_map.proofs.Fronts.{not_before_empty, front_listed}
-use Rattle.fabric_map.proofs.Growing.{path_listed, device_on, described-listed, node_at-entered}
-use Rattle.fabric_map.proofs.Leading.{along-append}
-use Rattle.fabric_map.proofs.Order.{further-not_less}
-use Rattle.fabric_map.proofs.Lists.{Contains-first, Contains-rest, Contains-cases, AllPairs-first, AllPairs-rest}
-use Rattle.fabric_map.proofs.Ways.{behind-link, followed-switch}
-use Rattle.host_enumerate.specs.Underway.{IsUnderway}
 use Rattle.host_enumerate.proofs.Asked.{host-keeps_id, most}
-use Rattle.host_enumerate.proofs.Keeping.{next-home}
-use Rattle.host_enumerate.proofs.Meeting.{IsMember}
-use Rattle.contest_machine.specs.Machine.{last_path, but_last}
 use Rattle.contest_machine.proofs.Keeping.Lists.{split_last}
 use Rattle.contest_machine.proofs.Asking.Answering.{PassesOthers, not_longer}
 use Rattle.contest_machine.proofs.Asking.Hosted.{host_listed}
@@ -155,8 +132,7 @@ module _ (view : Topology) (before now : AllRegisters) (id next : ℕ) (devices 
   first_is : (all : List Device) → Contains (paths_of all) [] → AreLater (paths_of all)
       → IsFirst all
   first_is [] found later = tt
-  first_is (device ∷ rest) found later =
-      go (Contains-cases device.path (paths_of rest) [] found)
+  first_is (device ∷ rest) found later = go (Contains-cases device.path (paths_of rest) [] found)
     where
       go : (device.path ≡ []) ⊎ Contains (paths_of rest) [] → device.path ≡ []
       go (inl same) = same

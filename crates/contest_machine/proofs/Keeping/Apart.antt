@@ -1,22 +1,5 @@
 -- After each turn of two walkers, no device is kept by both.
-use Rattle.std.proofs.Common.{◌≡◌, ◌≢◌, ℕ, ◌+◌, ◌*◌, ◌/◌, ◌%◌, ◌<◌, Bool, true, false, List, [], ◌∷◌, ◌++◌, Option, Some, None, Contains, arith, inl, inr, subst, sym, refl, ap, ◌∙◌, if◌then◌else◌}
-use Rattle.fabric_script.specs.declared.ports.PortRef.{PortRef}
-use Rattle.fabric_map.specs.Topology.{entered}
-use Rattle.fabric_map.specs.Routes.{AllRegisters}
-use Rattle.fabric_map.specs.Numbered.{paths_of}
-use Rattle.host_enumerate.specs.declared.maint.Access.TheVariants.{Read, Write}
-use Rattle.host_enumerate.specs.Accesses.{answered, after_access}
-use Rattle.contest_machine.specs.declared.stages.PendingWrite.{PendingWrite}
-use Rattle.contest_machine.specs.declared.stages.Tried.{Tried}
-use Rattle.contest_machine.specs.declared.stages.Stage.{Stage}
-use Rattle.contest_machine.specs.declared.stages.Stage.TheVariants.{Ask, Claim, Check, Test, Features, Information, Status, Free, Done, Lost}
-use Rattle.contest_machine.specs.declared.stages.Asked.{Asked}
-use Rattle.contest_machine.specs.Machine.{Walker, State, asked, kept, fresh, last_path, numbered, settled, told_at, reached, stepped}
-use Rattle.contest_machine.specs.Contest.{Keeps, Knows, AreOnce, AreOwnWrites, AreListed, IsMine, IsLockOfNone, IsContest}
-use Rattle.link_watch.specs.declared.side.Side.{Side}
-use Rattle.link_watch.specs.declared.side.Side.TheVariants.{A, B}
-use Rattle.contest_machine.specs.Turns.{is_locking, locked_on, walker_turned, Both, turn_of, after_turns}
-use Rattle.contest_machine.specs.Keeping.{IsNew, TurnsKeepApart}
+use Rattle.contest_machine.proofs.Prelude.{◌≡◌, ◌≢◌, ℕ, ◌+◌, ◌*◌, ◌/◌, ◌%◌, ◌<◌, Bool, true, false, List, [], ◌∷◌, ◌++◌, Option, Some, None, Contains, arith, inl, inr, subst, sym, refl, ap, ◌∙◌, if◌then◌else◌, PortRef, entered, AllRegisters, paths_of, Read, Write, answered, after_access, PendingWrite, Tried, Stage, Ask, Claim, Check, Test, Features, Information, Status, Free, Done, Lost, Asked, Walker, State, asked, kept, fresh, last_path, numbered, settled, told_at, reached, stepped, Keeps, Knows, AreOnce, AreOwnWrites, AreListed, IsMine, IsLockOfNone, IsContest, Side, A, B, is_locking, locked_on, walker_turned, Both, turn_of, after_turns, IsNew, TurnsKeepApart}
 use Rattle.contest_machine.proofs.Keeping.Frame.{Nothing, turn_and_quiet, contest-stays, kept_stays}
 use Rattle.contest_machine.proofs.Keeping.Reading.{read-same, lock_told, tag_told}
 use Rattle.contest_machine.proofs.Keeping.Turning.{Leaves}
@@ -290,8 +273,7 @@ module _ (w : Walker) (before old : AllRegisters) where
 
 pub turn_holds : (before : AllRegisters) (both : Both) (side : Side) → Holds before both
     → Holds before (turn_of both side)
-turn_holds before both A contest =
-    turned_holds both.second before both.first both.registers contest
+turn_holds before both A contest = turned_holds both.second before both.first both.registers contest
 turn_holds before both B contest =
     swap (walker_turned both.second both.registers).walker both.first before _
     (turned_holds both.first before both.second both.registers

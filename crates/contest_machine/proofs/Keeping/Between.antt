@@ -1,20 +1,5 @@
 -- What a walker does between two devices leaves it within its bounds.
-use Rattle.std.proofs.Common.{◌≡◌, ◌≢◌, ℕ, ◌+◌, ◌*◌, ◌≤◌, nat_lt, Bool, true, false, eqb, List, [], ◌∷◌, ◌++◌, length, IsSome, Contains, arith, ◌⊎◌, inl, inr, subst, sym, refl, if◌then◌else◌, append-nil, length-append}
-use Rattle.std.proofs.lemmas.Bool.{eqb-true, eqb-false}
-use Rattle.std.proofs.lemmas.List.Elements.{Contains-append_cases}
-use Rattle.fabric_map.specs.declared.map.Kind.{Kind}
-use Rattle.fabric_map.specs.declared.map.Kind.TheVariants.{Endpoint, Switch}
-use Rattle.fabric_map.specs.declared.map.Device.{Device}
-use Rattle.fabric_map.specs.Topology.{Topology, IsTopology, node_at}
-use Rattle.fabric_map.specs.Numbered.{paths_of}
-use Rattle.fabric_map.proofs.Growing.{paths_of-push}
-use Rattle.fabric_map.proofs.Lists.{Contains-cases}
-use Rattle.host_enumerate.specs.Underway.{id_after, met_as}
-use Rattle.contest_machine.specs.declared.stages.Tried.{Tried}
-use Rattle.contest_machine.specs.declared.stages.Stage.{Stage}
-use Rattle.contest_machine.specs.declared.stages.Stage.TheVariants.{Ask, Claim, Check, Test, Status}
-use Rattle.contest_machine.specs.Machine.{Walker, write, routes_to, freeing, port_after, gone_on, taken, judged, numbered, switch_set_up, outward}
-use Rattle.contest_machine.specs.Within.{AreShort, WalkIsBounded, WalkerIsWithin}
+use Rattle.contest_machine.proofs.Prelude.{◌≡◌, ◌≢◌, ℕ, ◌+◌, ◌*◌, ◌≤◌, nat_lt, Bool, true, false, eqb, List, [], ◌∷◌, ◌++◌, length, IsSome, Contains, arith, ◌⊎◌, inl, inr, subst, sym, refl, if◌then◌else◌, append-nil, length-append, eqb-true, eqb-false, Contains-append_cases, Kind, Endpoint, Switch, Device, Topology, IsTopology, node_at, paths_of, paths_of-push, Contains-cases, id_after, met_as, Tried, Stage, Ask, Claim, Check, Test, Status, Walker, write, routes_to, freeing, port_after, gone_on, taken, judged, numbered, switch_set_up, outward, AreShort, WalkIsBounded, WalkerIsWithin}
 
 -- ---- what stands between two devices
 

@@ -1,22 +1,5 @@
 -- A walker that is within its bounds stays within them.
-use Rattle.std.proofs.Common.{◌≡◌, ℕ, ◌+◌, ◌*◌, ◌/◌, ◌%◌, Bool, true, false, eqb, List, [], ◌∷◌, ◌++◌, Option, Some, None, IsSome, Contains, arith, subst, sym, refl, if◌then◌else◌}
-use Rattle.std.proofs.lemmas.List.Elements.{Contains-append_left, Contains-append_right}
-use Rattle.fabric_script.specs.declared.ports.PortRef.{PortRef}
-use Rattle.fabric_map.specs.declared.map.Device.{Device}
-use Rattle.fabric_map.specs.Topology.{IsTopology, entered, node_at}
-use Rattle.fabric_map.specs.Routes.{AllRegisters}
-use Rattle.fabric_map.specs.Numbered.{paths_of}
-use Rattle.fabric_map.proofs.Growing.{node_at-entered}
-use Rattle.fabric_map.proofs.Lists.{Contains-first}
-use Rattle.host_enumerate.specs.declared.maint.Access.TheVariants.{Read, Write}
-use Rattle.host_enumerate.specs.Accesses.{answered}
-use Rattle.contest_machine.specs.declared.stages.PendingWrite.{PendingWrite}
-use Rattle.contest_machine.specs.declared.stages.Tried.{Tried}
-use Rattle.contest_machine.specs.declared.stages.Stage.{Stage}
-use Rattle.contest_machine.specs.declared.stages.Stage.TheVariants.{Ask, Claim, Check, Test, Features, Information, Status, Free, Done, Lost}
-use Rattle.contest_machine.specs.declared.stages.Asked.{Asked}
-use Rattle.contest_machine.specs.Machine.{Walker, asked, last_path, but_last, gone_on, taken, judged, numbered, outward, settled, walker_told, reached, stepped}
-use Rattle.contest_machine.specs.Within.{WalkIsBounded, WalkerIsWithin}
+use Rattle.contest_machine.proofs.Prelude.{◌≡◌, ℕ, ◌+◌, ◌*◌, ◌/◌, ◌%◌, Bool, true, false, eqb, List, [], ◌∷◌, ◌++◌, Option, Some, None, IsSome, Contains, arith, subst, sym, refl, if◌then◌else◌, Contains-append_left, Contains-append_right, PortRef, Device, IsTopology, entered, node_at, AllRegisters, paths_of, node_at-entered, Contains-first, Read, Write, answered, PendingWrite, Tried, Stage, Ask, Claim, Check, Test, Features, Information, Status, Free, Done, Lost, Asked, Walker, asked, last_path, but_last, gone_on, taken, judged, numbered, outward, settled, walker_told, reached, stepped, WalkIsBounded, WalkerIsWithin}
 use Rattle.contest_machine.proofs.Keeping.Lists.{split_last}
 use Rattle.contest_machine.proofs.Keeping.Between.{IsBetween, freeing_within, checks, tests, judged_within, taken_within, gone, outward_within, numbered_within, set_up_within}
 
@@ -47,8 +30,7 @@ module _ (w : Walker) (old : AllRegisters) where
       go (Some at) some = some at refl
 
   at_path : (at : PortRef) → entered w.view w.path ≡ Some at → IsSome (node_at w.view w.path)
-  at_path at enters =
-      subst IsSome (sym (node_at-entered w.view w.path at enters)) refl
+  at_path at enters = subst IsSome (sym (node_at-entered w.view w.path at enters)) refl
 
   free_within : (devices : List Device)
       → ((path : List ℕ) → Contains (paths_of devices ++ []) path → IsSome (node_at w.view path))
@@ -157,8 +139,7 @@ module _ (w : Walker) (old : AllRegisters) where
       (asked (last_path w.devices) (Write 0x68 w.id)) within
       (λ at enters. freeing_within w within.proper Free (but_last w.devices)
       (free_within w.devices within.leading))
-  stage_within Done within = within
-  stage_within Lost within = within
+  stage_within _ within = within
 
 -- what was written does not matter, but that the host is taken in
 settled_within : (w : Walker) (p : PendingWrite) (rest : List PendingWrite) (stage : Stage)

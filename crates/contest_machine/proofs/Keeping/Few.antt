@@ -1,16 +1,7 @@
 -- No more paths lead to different devices than there are devices.
-use Rattle.std.proofs.Common.{◌≡◌, ◌≢◌, ℕ, ◌<◌, ◌≤◌, ◌||◌, Bool, true, false, eqb, List, [], ◌∷◌, length, map, Option, Some, None, IsSome, unwrap_or, Contains, subst, sym, refl, ne_eqb}
-use Rattle.std.specs.List.{list_any, IsDistinct, AllByRecursion}
-use Rattle.std.proofs.lemmas.Bool.{eqb-true}
-use Rattle.std.proofs.lemmas.List.{length-map}
+use Rattle.contest_machine.proofs.Prelude.{◌≡◌, ◌≢◌, ℕ, ◌<◌, ◌≤◌, ◌||◌, Bool, true, false, eqb, List, [], ◌∷◌, length, map, Option, Some, None, IsSome, unwrap_or, Contains, subst, sym, refl, ne_eqb, list_any, IsDistinct, AllByRecursion, eqb-true, length-map, PortRef, Topology, IsTopology, entered, node_at, entered-inside, same_number, node_at-entered, Contains-first, Contains-rest, AreOnce}
 use Rattle.std.proofs.lemmas.Map.Steps.{length-le_from_distinct_below}
 use Rattle.std.proofs.lemmas.Map.Keys.{IsDistinct-cons}
-use Rattle.fabric_script.specs.declared.ports.PortRef.{PortRef}
-use Rattle.fabric_map.specs.Topology.{Topology, IsTopology, entered, node_at}
-use Rattle.fabric_map.proofs.Few.{entered-inside, same_number}
-use Rattle.fabric_map.proofs.Growing.{node_at-entered}
-use Rattle.fabric_map.proofs.Lists.{Contains-first, Contains-rest}
-use Rattle.contest_machine.specs.Contest.{AreOnce}
 
 -- ---- how many devices
 

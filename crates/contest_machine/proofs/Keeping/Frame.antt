@@ -1,16 +1,6 @@
 -- What a turn of one walker leaves of the other's devices, and of those that nobody keeps.
-use Rattle.std.proofs.Common.{◌≡◌, ◌≢◌, ℕ, ◌<◌, List, [], ◌∷◌, ◌++◌, Some, Contains, arith, ◌⊎◌, inl, inr, subst, sym, refl, ap, ◌∙◌}
-use Rattle.maint_registers.specs.Devices.{Registers}
-use Rattle.fabric_map.specs.Topology.{node_at}
-use Rattle.fabric_map.specs.Routes.{AllRegisters}
-use Rattle.fabric_map.specs.Numbered.{paths_of}
-use Rattle.contest_machine.specs.declared.stages.Stage.{Stage}
-use Rattle.contest_machine.specs.declared.stages.Stage.TheVariants.{Ask, Claim, Check, Test, Features, Information, Status, Free, Done, Lost}
-use Rattle.contest_machine.specs.Machine.{Walker, fresh, kept}
-use Rattle.contest_machine.specs.Contest.{Keeps, IsAtPath, TagComes, Knows, IsMine, HasClaimed, IsLockOfNone, IsStale, IsContest}
-use Rattle.contest_machine.proofs.Keeping.Lists.{Leads, leads_or_not}
-use Rattle.std.proofs.lemmas.List.Elements.{Contains-append_left, Contains-append_right}
-use Rattle.fabric_map.proofs.Lists.{Contains-first}
+use Rattle.contest_machine.proofs.Prelude.{◌≡◌, ◌≢◌, ℕ, ◌<◌, List, [], ◌∷◌, ◌++◌, Contains, arith, ◌⊎◌, inl, inr, subst, sym, refl, ap, ◌∙◌, Registers, AllRegisters, paths_of, Stage, Ask, Claim, Check, Test, Features, Information, Status, Free, Done, Lost, Walker, fresh, kept, Keeps, IsAtPath, TagComes, Knows, IsMine, HasClaimed, IsLockOfNone, IsContest, Contains-append_left, Contains-append_right, Contains-first}
+use Rattle.contest_machine.proofs.Keeping.Lists.{leads_or_not}
 
 -- What a turn of a walker does to one device: nothing; it writes another register than the lock of
 -- a device that it keeps; it takes a free lock; it frees the lock of a device that it kept. If the
@@ -203,8 +193,7 @@ contest-stays w after o before old new contest turn mine = record {
     others node none not (Frees keeps free whole) (inr not_first) = absurd (not_first keeps)
 
     not_free : (node : ℕ) → (new node).lock ≡ after.id → (new node).lock ≢ 0xffff
-    not_free node held free =
-        omega (arith, contest.first_id, sym free ∙ (held ∙ turn.id))
+    not_free node held free = omega (arith, contest.first_id, sym free ∙ (held ∙ turn.id))
 
     stale : (node : ℕ) → ¬ Keeps after node → ¬ Keeps o node → (new node).lock ≡ after.id
         → ¬ HasClaimed after new node → Does w after old new node

@@ -1,22 +1,5 @@
 -- One turn of a walker that frees the last device that it keeps.
-use Rattle.std.proofs.Common.{◌≡◌, ◌≢◌, ℕ, ◌+◌, ◌<◌, List, [], ◌∷◌, ◌++◌, Some, Contains, arith, ◌⊎◌, inl, inr, subst, sym, refl, ap, ◌∙◌, append-nil}
-use Rattle.std.proofs.lemmas.Bool.{cases_eq}
-use Rattle.std.proofs.lemmas.List.Elements.{Contains-append_left, Contains-append_right, Contains-append_cases}
-use Rattle.fabric_script.specs.declared.ports.PortRef.{PortRef}
-use Rattle.maint_registers.specs.Devices.{Registers}
-use Rattle.maint_registers.specs.Access.{locked}
-use Rattle.fabric_map.specs.declared.map.Device.{Device}
-use Rattle.fabric_map.specs.Topology.{entered, node_at}
-use Rattle.fabric_map.specs.Routes.{AllRegisters}
-use Rattle.fabric_map.specs.Numbered.{paths_of}
-use Rattle.fabric_map.proofs.Growing.{node_at-entered}
-use Rattle.fabric_map.proofs.Lists.{Contains-first, Contains-cases}
-use Rattle.host_enumerate.specs.declared.maint.Access.TheVariants.{Write}
-use Rattle.host_enumerate.specs.Accesses.{registers_with, after_access}
-use Rattle.host_enumerate.proofs.Frames.{with_device-at, with_device-other}
-use Rattle.contest_machine.specs.declared.stages.Stage.TheVariants.{Free}
-use Rattle.contest_machine.specs.Machine.{Walker, last_path, but_last, freeing}
-use Rattle.contest_machine.specs.Contest.{Keeps, AreOnce, IsMine}
+use Rattle.contest_machine.proofs.Prelude.{◌≡◌, ◌≢◌, ℕ, ◌<◌, List, [], ◌∷◌, ◌++◌, Some, Contains, arith, ◌⊎◌, inl, inr, subst, sym, refl, ap, ◌∙◌, append-nil, cases_eq, Contains-append_left, Contains-append_right, Contains-append_cases, PortRef, Registers, Device, entered, node_at, AllRegisters, paths_of, node_at-entered, Contains-first, Contains-cases, Write, after_access, with_device-at, with_device-other, Free, Walker, last_path, but_last, freeing, Keeps, AreOnce, IsMine}
 use Rattle.contest_machine.proofs.Keeping.Lists.{Leads, once-front, once-last, split_last}
 use Rattle.contest_machine.proofs.Keeping.Frame.{Does, Nothing, Frees, IsTurn}
 use Rattle.contest_machine.proofs.Keeping.Reading.{lock_left, locked-own}

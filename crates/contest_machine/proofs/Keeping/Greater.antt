@@ -1,24 +1,5 @@
 -- The walker with the greater ID is never lost.
-use Rattle.std.proofs.Common.{◌≡◌, ◌≢◌, ℕ, ◌+◌, ◌*◌, ◌/◌, ◌%◌, ◌<◌, ◌≤◌, ◌==◌, ◌++◌, nat_lt, Bool, true, false, eqb, List, [], ◌∷◌, Option, Some, None, arith, ◌⊎◌, inl, inr, subst, sym, refl, ap, ◌∙◌, if◌then◌else◌}
-use Rattle.std.proofs.lemmas.Bool.{eqb-false, ltb-true}
-use Rattle.fabric_script.specs.declared.ports.PortRef.{PortRef}
-use Rattle.fabric_map.specs.Topology.{entered}
-use Rattle.fabric_map.specs.Routes.{AllRegisters}
-use Rattle.fabric_map.specs.declared.map.Kind.TheVariants.{Endpoint}
-use Rattle.host_enumerate.specs.Underway.{id_after, met_as}
-use Rattle.host_enumerate.specs.declared.maint.Access.TheVariants.{Read, Write}
-use Rattle.host_enumerate.specs.Accesses.{answered}
-use Rattle.contest_machine.specs.declared.stages.PendingWrite.{PendingWrite}
-use Rattle.contest_machine.specs.declared.stages.Tried.{Tried}
-use Rattle.contest_machine.specs.declared.stages.Stage.{Stage}
-use Rattle.contest_machine.specs.declared.stages.Stage.TheVariants.{Ask, Claim, Check, Test, Features, Information, Status, Free, Done, Lost}
-use Rattle.contest_machine.specs.declared.stages.Asked.{Asked}
-use Rattle.contest_machine.specs.Machine.{write, routes_to, Walker, State, asked, freeing, port_after, gone_on, taken, judged, numbered, switch_set_up, outward, settled, walker_told, told_at, reached, stepped}
-use Rattle.contest_machine.specs.Contest.{Keeps, HasClaimed, IsLockOfNone, IsContest}
-use Rattle.link_watch.specs.declared.side.Side.{Side}
-use Rattle.link_watch.specs.declared.side.Side.TheVariants.{A, B}
-use Rattle.contest_machine.specs.Turns.{walker_turned, Both, turn_of, after_turns}
-use Rattle.contest_machine.specs.Keeping.{IsNew, HoldsOn, GreaterHoldsOn}
+use Rattle.contest_machine.proofs.Prelude.{◌≡◌, ◌≢◌, ℕ, ◌+◌, ◌*◌, ◌/◌, ◌%◌, ◌<◌, ◌≤◌, ◌++◌, nat_lt, Bool, true, false, eqb, List, [], ◌∷◌, Option, Some, None, arith, ◌⊎◌, inl, inr, subst, sym, refl, ◌∙◌, if◌then◌else◌, eqb-false, ltb-true, PortRef, entered, AllRegisters, Endpoint, id_after, met_as, Read, Write, answered, PendingWrite, Tried, Stage, Ask, Claim, Check, Test, Features, Information, Status, Free, Done, Lost, Asked, write, routes_to, Walker, State, asked, freeing, port_after, gone_on, taken, judged, numbered, outward, settled, walker_told, told_at, reached, stepped, Keeps, IsLockOfNone, IsContest, Side, A, B, walker_turned, Both, turn_of, after_turns, HoldsOn, GreaterHoldsOn}
 use Rattle.contest_machine.proofs.Keeping.Frame.{keeps_or_not}
 use Rattle.contest_machine.proofs.Keeping.Reading.{lock_told}
 use Rattle.contest_machine.proofs.Keeping.Apart.{Holds, swap, step_holds, step_id, begun_contest, turned_by, turn_holds, begun_holds}
@@ -112,9 +93,8 @@ module _ (w : Walker) (value : ℕ) where
           else gone_on (record w { stage = Status }) w.tried).stage
       go true = out w.tried
       go false = gone_holds (record w { stage = Status }) w.tried
-  told_holds Free on small = absurd on
   told_holds Done on small = tt
-  told_holds Lost on small = absurd on
+  told_holds _ on small = absurd on
 
 module _ (w : Walker) (old : AllRegisters) (small : (node : ℕ) → IsNoGreater w.id (old node).lock)
   where

@@ -1,16 +1,5 @@
 -- Lists of paths.
-use Rattle.std.proofs.Common.{◌≡◌, ◌≢◌, ℕ, List, [], ◌∷◌, ◌++◌, Option, Some, None, Contains, arith, ◌⊎◌, inl, inr, subst, sym, refl, ap, ◌∙◌}
-use Rattle.std.proofs.lemmas.Bool.{cases_eq}
-use Rattle.std.proofs.lemmas.Option.{same_Some}
-use Rattle.std.proofs.lemmas.List.Elements.{Contains-append_left, Contains-append_right, Contains-append_cases}
-use Rattle.fabric_map.specs.declared.map.Device.{Device}
-use Rattle.fabric_map.specs.Topology.{Topology, node_at}
-use Rattle.fabric_map.specs.Numbered.{paths_of}
-use Rattle.fabric_map.proofs.Lists.{Contains-first, Contains-rest, Contains-cases}
-use Rattle.contest_machine.specs.declared.stages.PendingWrite.{PendingWrite}
-use Rattle.contest_machine.specs.declared.stages.Tried.{Tried}
-use Rattle.contest_machine.specs.Machine.{last_path, but_last}
-use Rattle.contest_machine.specs.Contest.{IsOwnWrite, AreOwnWrites, AreListed, AreOnce}
+use Rattle.contest_machine.proofs.Prelude.{◌≡◌, ◌≢◌, ℕ, List, [], ◌∷◌, ◌++◌, Option, Some, None, Contains, arith, ◌⊎◌, inl, inr, subst, sym, refl, ap, ◌∙◌, cases_eq, Contains-append_left, Contains-append_right, Contains-append_cases, Device, Topology, node_at, paths_of, Contains-first, Contains-rest, Contains-cases, PendingWrite, Tried, last_path, but_last, AreOwnWrites, AreListed, AreOnce}
 
 -- one of these paths leads to a device
 abbrev pub Leads : Topology → List (List ℕ) → ℕ → Type 0
@@ -19,8 +8,7 @@ Leads view paths node = (path : List ℕ) × Contains paths path × (node_at vie
 pub leads_or_not : (view : Topology) (paths : List (List ℕ)) (node : ℕ)
     → Leads view paths node ⊎ (¬ Leads view paths node)
 leads_or_not view [] node = inr (λ found. omega (arith, found.1.1))
-leads_or_not view (path ∷ rest) node =
-    go (node_at view path) refl (leads_or_not view rest node)
+leads_or_not view (path ∷ rest) node = go (node_at view path) refl (leads_or_not view rest node)
   where
     unlike : (o : Option ℕ) → node_at view path ≡ o → o ≢ Some node → ¬ Leads view rest node
         → ¬ Leads view (path ∷ rest) node
@@ -108,8 +96,7 @@ pub writes-append : (paths : List (List ℕ)) (first second : List PendingWrite)
     → AreOwnWrites paths first → AreOwnWrites paths second
     → AreOwnWrites paths (first ++ second)
 writes-append paths [] second own more = more
-writes-append paths (p ∷ rest) second own more =
-    (own.0, writes-append paths rest second own.1 more)
+writes-append paths (p ∷ rest) second own more = (own.0, writes-append paths rest second own.1 more)
 
 pub listed-more : (paths more : List (List ℕ)) (tried : List Tried)
     → ((path : List ℕ) → Contains paths path → Contains more path)

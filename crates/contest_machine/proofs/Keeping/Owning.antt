@@ -1,13 +1,5 @@
 -- An access of a walker changes only what it may.
-use Rattle.std.proofs.Common.{◌≡◌, ◌≢◌, ℕ, ◌<◌, List, inl, inr, ap, ◌∙◌}
-use Rattle.link_watch.specs.declared.side.Side.{Side}
-use Rattle.link_watch.specs.declared.side.Side.TheVariants.{A, B}
-use Rattle.fabric_map.specs.Routes.{AllRegisters}
-use Rattle.contest_machine.specs.Machine.{Walker, stepped}
-use Rattle.contest_machine.specs.Turns.{Both, after_turns}
-use Rattle.contest_machine.specs.Contest.{IsContest}
-use Rattle.contest_machine.specs.Keeping.{IsOwnChange, AccessesChangeTheirOwn}
-use Rattle.contest_machine.specs.Locks.{walker_of}
+use Rattle.contest_machine.proofs.Prelude.{ℕ, inl, inr, ap, ◌∙◌, Side, A, B, AllRegisters, Walker, stepped, after_turns, IsOwnChange, AccessesChangeTheirOwn, walker_of}
 use Rattle.contest_machine.proofs.Keeping.Frame.{Does, Nothing, Writes, Takes, Frees, IsTurn}
 use Rattle.contest_machine.proofs.Keeping.Apart.{Holds, turns_hold, begun_holds, step_leaves}
 

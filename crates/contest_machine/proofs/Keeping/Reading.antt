@@ -1,15 +1,5 @@
 -- What a read leaves and tells, and what a write leaves.
-use Rattle.std.proofs.Common.{◌≡◌, ◌≢◌, ℕ, ◌%◌, ◌<◌, unwrap_or, arith, ◌⊎◌, inl, inr, sym, refl, ap, ◌∙◌, eq-eqb, ne_eqb}
-use Rattle.std.proofs.lemmas.Bool.{cases_eq}
-use Rattle.fabric_script.specs.declared.ports.PortRef.{PortRef}
-use Rattle.maint_registers.specs.Devices.{Registers}
-use Rattle.maint_registers.specs.Access.{locked}
-use Rattle.maint_registers.proofs.AccessLaws.{lock-read, tag-read, lock-written, tag-written}
-use Rattle.maint_registers.proofs.BesideLaws.{lock-stays, tag-stays}
-use Rattle.fabric_map.specs.Routes.{AllRegisters}
-use Rattle.host_enumerate.specs.declared.maint.Access.TheVariants.{Read, Write}
-use Rattle.host_enumerate.specs.Accesses.{answered, after_access}
-use Rattle.host_enumerate.proofs.Frames.{with_device-itself}
+use Rattle.contest_machine.proofs.Prelude.{◌≡◌, ◌≢◌, ℕ, ◌%◌, ◌<◌, unwrap_or, arith, ◌⊎◌, inl, inr, sym, refl, ap, ◌∙◌, eq-eqb, ne_eqb, cases_eq, PortRef, Registers, locked, lock-read, tag-read, lock-written, tag-written, lock-stays, tag-stays, AllRegisters, Read, Write, answered, after_access, with_device-itself}
 
 pub read-same : (old : AllRegisters) (at : PortRef) (offset : ℕ)
     → after_access old at (Read offset) ≡ old
@@ -48,8 +38,7 @@ pub lock_left : (device : Registers) (port id : ℕ)
 lock_left device port id = ap (λ o. unwrap_or o device) (lock-written device id)
 
 pub locked-free : (lock id : ℕ) → lock ≡ 0xffff → id < 0xff → locked lock (id % 0x10000) ≡ id
-locked-free lock id free fits =
-    ap (λ n. locked n (id % 0x10000)) free ∙ omega (arith, fits)
+locked-free lock id free fits = ap (λ n. locked n (id % 0x10000)) free ∙ omega (arith, fits)
 
 pub locked-own : (lock id : ℕ) → lock ≡ id → id < 0xff → locked lock (id % 0x10000) ≡ 0xffff
 locked-own lock id own fits =

@@ -1,21 +1,5 @@
 -- One turn of a walker, at every stage.
-use Rattle.std.proofs.Common.{◌≡◌, ◌≢◌, ℕ, ◌+◌, ◌*◌, ◌/◌, ◌%◌, ◌<◌, ◌==◌, Bool, true, false, eqb, List, [], ◌∷◌, ◌++◌, Some, Contains, arith, ◌⊎◌, inl, inr, subst, sym, refl, ap, ◌∙◌, if◌then◌else◌, append-nil}
-use Rattle.std.proofs.lemmas.List.Elements.{Contains-append_left, Contains-append_right, Contains-append_cases}
-use Rattle.fabric_map.specs.declared.map.Kind.{Kind}
-use Rattle.fabric_map.specs.declared.map.Kind.TheVariants.{Endpoint, Switch}
-use Rattle.fabric_map.specs.declared.map.Device.{Device}
-use Rattle.fabric_map.specs.Topology.{node_at}
-use Rattle.fabric_map.specs.Routes.{AllRegisters}
-use Rattle.fabric_map.specs.Numbered.{paths_of}
-use Rattle.fabric_map.proofs.Growing.{paths_of-push}
-use Rattle.fabric_map.proofs.Lists.{Contains-first, Contains-cases}
-use Rattle.host_enumerate.specs.Underway.{id_after, met_as}
-use Rattle.contest_machine.specs.declared.stages.PendingWrite.{PendingWrite}
-use Rattle.contest_machine.specs.declared.stages.Tried.{Tried}
-use Rattle.contest_machine.specs.declared.stages.Stage.{Stage}
-use Rattle.contest_machine.specs.declared.stages.Stage.TheVariants.{Features, Information, Status}
-use Rattle.contest_machine.specs.Machine.{Walker, write, routes_to, home_set, gone_on, taken, numbered, switch_set_up, outward, told_at}
-use Rattle.contest_machine.specs.Contest.{Keeps, AreOwnWrites, AreListed, AreOnce, IsMine, HasClaimed}
+use Rattle.contest_machine.proofs.Prelude.{◌≡◌, ◌≢◌, ℕ, ◌+◌, ◌*◌, ◌/◌, ◌%◌, ◌<◌, ◌==◌, Bool, true, false, eqb, List, [], ◌∷◌, ◌++◌, Some, Contains, arith, ◌⊎◌, inl, inr, subst, sym, refl, ap, ◌∙◌, if◌then◌else◌, append-nil, Contains-append_left, Contains-append_right, Contains-append_cases, Kind, Endpoint, Switch, Device, node_at, AllRegisters, paths_of, paths_of-push, Contains-first, Contains-cases, id_after, met_as, PendingWrite, Tried, Stage, Features, Information, Status, Walker, write, routes_to, home_set, gone_on, numbered, switch_set_up, outward, told_at, Keeps, AreOwnWrites, AreListed, AreOnce, IsMine, HasClaimed}
 use Rattle.contest_machine.proofs.Keeping.Lists.{Leads, writes-more, listed-more}
 use Rattle.contest_machine.proofs.Keeping.Turning.{Leaves, quiet, routes_own, entry_own, home_own}
 use Rattle.contest_machine.proofs.Keeping.Stepped.{at_stage, gone_leaves}

@@ -1,25 +1,5 @@
 -- One turn of a walker: it knows what it keeps afterwards, and changes nothing else.
-use Rattle.std.proofs.Common.{◌≡◌, ◌≢◌, ℕ, ◌+◌, ◌%◌, ◌<◌, nat_lt, Bool, true, false, eqb, List, [], ◌∷◌, ◌++◌, Some, Contains, arith, ◌⊎◌, inl, inr, subst, sym, refl, ap, ◌∙◌, if◌then◌else◌, append-nil}
-use Rattle.std.proofs.lemmas.Bool.{cases_eq, eqb-true, eqb-false}
-use Rattle.std.proofs.lemmas.Option.{same_Some}
-use Rattle.std.proofs.lemmas.List.Elements.{Contains-append_left, Contains-append_right, Contains-append_cases}
-use Rattle.fabric_script.specs.declared.ports.PortRef.{PortRef}
-use Rattle.maint_registers.specs.Devices.{Registers}
-use Rattle.maint_registers.specs.Access.{locked}
-use Rattle.fabric_map.specs.declared.map.Device.{Device}
-use Rattle.fabric_map.specs.Topology.{Topology, entered, node_at}
-use Rattle.fabric_map.specs.Routes.{AllRegisters}
-use Rattle.fabric_map.specs.Numbered.{paths_of}
-use Rattle.fabric_map.proofs.Growing.{node_at-entered}
-use Rattle.fabric_map.proofs.Lists.{Contains-first, Contains-cases}
-use Rattle.host_enumerate.specs.declared.maint.Access.TheVariants.{Write}
-use Rattle.host_enumerate.specs.Accesses.{answered, after_access}
-use Rattle.host_enumerate.proofs.Frames.{with_device-at, with_device-other}
-use Rattle.contest_machine.specs.declared.stages.PendingWrite.{PendingWrite}
-use Rattle.contest_machine.specs.declared.stages.Stage.{Stage}
-use Rattle.contest_machine.specs.declared.stages.Stage.TheVariants.{Ask, Claim, Check, Test, Features, Information, Status, Free, Done, Lost}
-use Rattle.contest_machine.specs.Machine.{Walker, kept, freeing, gone_on, taken, judged, told_at}
-use Rattle.contest_machine.specs.Contest.{Keeps, TagComes, Knows, AreOwnWrites, AreListed, AreOnce, IsMine, HasClaimed}
+use Rattle.contest_machine.proofs.Prelude.{◌≡◌, ◌≢◌, ℕ, ◌%◌, ◌<◌, nat_lt, Bool, true, false, eqb, List, [], ◌∷◌, ◌++◌, Some, Contains, arith, ◌⊎◌, inl, inr, subst, sym, refl, ap, ◌∙◌, if◌then◌else◌, append-nil, cases_eq, eqb-true, eqb-false, same_Some, Contains-append_left, Contains-append_right, Contains-append_cases, PortRef, Registers, locked, Device, Topology, entered, node_at, AllRegisters, paths_of, node_at-entered, Contains-first, Contains-cases, Write, answered, after_access, with_device-at, with_device-other, PendingWrite, Stage, Ask, Claim, Check, Test, Features, Information, Status, Free, Done, Lost, Walker, freeing, gone_on, taken, judged, told_at, Keeps, TagComes, Knows, AreOwnWrites, AreListed, AreOnce, IsMine, HasClaimed}
 use Rattle.contest_machine.proofs.Keeping.Lists.{Leads}
 use Rattle.contest_machine.proofs.Keeping.Frame.{Does, Nothing, Writes, Takes, IsTurn}
 use Rattle.contest_machine.proofs.Keeping.Reading.{write_keeps_lock, write_keeps_tag, tag_given, lock_left, locked-free, locked-other}
@@ -195,8 +175,7 @@ module _ (w : Walker) (old : AllRegisters) (fits : w.id < 0xff) (at : PortRef)
     where
       waits : (b : Bool) → IsTurn (at_stage w stage)
           (if b then freeing (at_stage w stage) w.devices else at_stage w Ask) old old
-      waits true =
-          freeing_turn (at_stage w stage) w.devices refl refl less more none
+      waits true = freeing_turn (at_stage w stage) w.devices refl refl less more none
       waits false = quiet (at_stage w stage) old (at_stage w Ask) refl less more none
 
       go : (b : Bool) → IsTurn (at_stage w stage)

@@ -1,28 +1,7 @@
 -- What one turn of a walker leaves, case by case.
-use Rattle.std.proofs.Common.{◌≡◌, ◌≢◌, ℕ, zero, suc, ◌+◌, ◌*◌, ◌/◌, ◌%◌, ◌<◌, ◌==◌, nat_lt, Bool, true, false, eqb, List, [], ◌∷◌, ◌++◌, length, Option, Some, None, Contains, arith, ◌⊎◌, inl, inr, subst, sym, refl, ap, ◌∙◌, if◌then◌else◌, append-nil}
-use Rattle.std.proofs.lemmas.Bool.{cases_eq, eqb-true, eqb-false}
-use Rattle.std.proofs.lemmas.Option.{same_Some}
-use Rattle.std.proofs.lemmas.List.Elements.{Contains-append_left, Contains-append_right, Contains-append_cases}
-use Rattle.fabric_script.specs.declared.ports.PortRef.{PortRef}
-use Rattle.maint_registers.specs.Devices.{Registers}
-use Rattle.fabric_map.specs.declared.map.Kind.{Kind}
-use Rattle.fabric_map.specs.declared.map.Kind.TheVariants.{Endpoint, Switch}
-use Rattle.fabric_map.specs.declared.map.Device.{Device}
-use Rattle.fabric_map.specs.Topology.{Topology, entered, node_at}
-use Rattle.fabric_map.specs.Walked.{onward}
-use Rattle.fabric_map.specs.Routes.{AllRegisters}
-use Rattle.fabric_map.specs.Numbered.{paths_of, toward}
-use Rattle.fabric_map.proofs.Growing.{paths_of-push, node_at-entered}
-use Rattle.fabric_map.proofs.Lists.{Contains-first, Contains-rest, Contains-cases}
-use Rattle.host_enumerate.specs.Underway.{met_as}
-use Rattle.contest_machine.specs.declared.stages.PendingWrite.{PendingWrite}
-use Rattle.contest_machine.specs.declared.stages.Tried.{Tried}
-use Rattle.contest_machine.specs.declared.stages.Stage.{Stage}
-use Rattle.contest_machine.specs.declared.stages.Stage.TheVariants.{Ask, Claim, Check, Test, Features, Information, Status, Free, Done, Lost}
-use Rattle.contest_machine.specs.Machine.{Walker, State, fresh, kept, write, entry_set, route_of, route_pending, routes_to, cleared_below, home_set, own_id, freeing, port_after, gone_on, taken, judged, numbered, switch_set_up, outward}
-use Rattle.contest_machine.specs.Contest.{Keeps, IsAtPath, TagComes, Knows, IsOwnWrite, AreOwnWrites, AreListed, AreOnce, IsMine, HasClaimed}
-use Rattle.contest_machine.proofs.Keeping.Lists.{Leads, once-push, writes-more, writes-append, listed-more}
-use Rattle.contest_machine.proofs.Keeping.Frame.{Does, Nothing, IsTurn}
+use Rattle.contest_machine.proofs.Prelude.{◌≡◌, ◌≢◌, ℕ, zero, suc, ◌+◌, ◌<◌, ◌==◌, nat_lt, Bool, true, false, eqb, List, [], ◌∷◌, ◌++◌, length, Option, Some, None, Contains, arith, ◌⊎◌, inl, inr, subst, sym, refl, ap, ◌∙◌, if◌then◌else◌, append-nil, eqb-true, same_Some, Contains-append_left, Contains-append_right, Contains-append_cases, PortRef, Kind, Endpoint, Switch, Device, entered, node_at, AllRegisters, paths_of, toward, node_at-entered, Contains-first, Contains-rest, Contains-cases, PendingWrite, Tried, Stage, Ask, Claim, Status, Done, Walker, write, entry_set, route_of, route_pending, routes_to, cleared_below, home_set, own_id, freeing, port_after, gone_on, taken, judged, Keeps, TagComes, AreOwnWrites, AreListed, AreOnce, IsMine, HasClaimed}
+use Rattle.contest_machine.proofs.Keeping.Lists.{Leads, once-push, writes-append}
+use Rattle.contest_machine.proofs.Keeping.Frame.{Nothing, IsTurn}
 
 -- what a turn is shown to leave
 abbrev pub Leaves : Walker → AllRegisters → Walker → AllRegisters → Type 0

@@ -1,15 +1,6 @@
 -- What stands of a walker behind the host: it is on its way, and is behind a port of each switch
 -- whose ports it tries.
-use Rattle.std.proofs.Common.{◌≡◌, ◌≢◌, ℕ, ◌+◌, nat_lt, Bool, true, false, List, [], ◌∷◌, inl, sym, refl, ◌∙◌, if◌then◌else◌}
-use Rattle.std.proofs.lemmas.Bool.{ltb-false}
-use Rattle.fabric_map.specs.Walked.{onward}
-use Rattle.fabric_map.specs.Routes.{AllRegisters}
-use Rattle.host_enumerate.specs.Underway.{IsUnderway}
-use Rattle.host_enumerate.proofs.Meeting.{IsMember}
-use Rattle.contest_machine.specs.declared.stages.Tried.{Tried}
-use Rattle.contest_machine.specs.declared.stages.Stage.{Stage}
-use Rattle.contest_machine.specs.declared.stages.Stage.TheVariants.{Ask, Claim, Check, Test, Features, Information, Status, Free, Done, Lost}
-use Rattle.contest_machine.specs.Machine.{Walker, port_after, gone_on}
+use Rattle.contest_machine.proofs.Prelude.{◌≡◌, ◌≢◌, ℕ, ◌+◌, nat_lt, Bool, true, false, List, [], ◌∷◌, inl, sym, refl, ◌∙◌, if◌then◌else◌, ltb-false, onward, AllRegisters, IsUnderway, IsMember, Tried, Stage, Ask, Claim, Check, Test, Features, Information, Status, Free, Done, Lost, Walker, port_after, gone_on}
 use Rattle.contest_machine.proofs.Numbering.OnWay.{performed, IsOnWay}
 use Rattle.contest_machine.proofs.Numbering.Chained.{IsFrame, IsBehind, AreChained, past_top, skipped, closed}
 

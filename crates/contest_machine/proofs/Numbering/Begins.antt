@@ -1,34 +1,8 @@
 -- A walker that takes in its own host first.
-use Rattle.std.proofs.Common.{◌≡◌, ◌≢◌, ℕ, ◌*◌, ◌<◌, Bool, List, [], ◌∷◌, ◌++◌, Some, arith, ◌⊎◌, inl, inr, subst, sym, refl, ap, ◌∙◌, unwrap_or}
-use Rattle.std.proofs.lemmas.Bool.{cases_eq}
-use Rattle.std.proofs.lemmas.Option.{same_Some}
-use Rattle.fabric_script.specs.Ports.{port_at}
-use Rattle.maint_registers.specs.Devices.{Registers}
-use Rattle.fabric_map.specs.declared.map.Kind.TheVariants.{Endpoint}
-use Rattle.fabric_map.specs.Topology.{Topology, IsTopology}
-use Rattle.fabric_map.specs.Routes.{AllRegisters}
-use Rattle.fabric_map.specs.Fitting.{Fits}
-use Rattle.fabric_map.proofs.Lists.{Contains-first}
-use Rattle.host_enumerate.specs.declared.maint.Access.TheVariants.{Write}
-use Rattle.host_enumerate.specs.Accesses.{answered, registers_with}
-use Rattle.host_enumerate.specs.Holding.{IsTakable}
-use Rattle.host_enumerate.specs.Underway.{met_as}
-use Rattle.host_enumerate.proofs.Meeting.{IsMember}
-use Rattle.contest_machine.specs.declared.stages.PendingWrite.{PendingWrite}
-use Rattle.contest_machine.specs.declared.stages.Stage.{Stage}
-use Rattle.contest_machine.specs.declared.stages.Stage.TheVariants.{Ask, Claim, Check, Test, Features, Information, Status, Free, Done, Lost}
-use Rattle.contest_machine.specs.Machine.{Walker, write, taken, numbered}
+use Rattle.contest_machine.proofs.Prelude.{◌≡◌, ◌≢◌, ℕ, ◌*◌, ◌<◌, Bool, List, [], ◌∷◌, ◌++◌, Some, arith, ◌⊎◌, inl, inr, subst, sym, refl, ap, ◌∙◌, unwrap_or, cases_eq, same_Some, port_at, Registers, Endpoint, Topology, IsTopology, AllRegisters, Fits, Contains-first, Write, answered, registers_with, IsTakable, met_as, IsMember, PendingWrite, Stage, Ask, Claim, Check, Test, Features, Information, Status, Free, Done, Lost, Walker, write, taken, numbered, base_id-written, tag-written, begins, not_in_empty, AreOwnUntagged, counted-none, with_device-at, with_device-other, IsTaken, underway-host, own_id}
 use Rattle.contest_machine.proofs.Numbering.OnWay.{performed, taken_as, IsOnWay, not_foreign}
 use Rattle.contest_machine.proofs.Numbering.Settling.{performed-one, device_after}
 use Rattle.contest_machine.proofs.Numbering.Along.{IsAlong}
-use Rattle.maint_registers.proofs.AccessLaws.{base_id-written, tag-written}
-use Rattle.fabric_map.proofs.Steps.{begins}
-use Rattle.fabric_map.proofs.Lists.{not_in_empty}
-use Rattle.host_enumerate.specs.Underway.{AreOwnUntagged}
-use Rattle.host_enumerate.proofs.Counting.{counted-none}
-use Rattle.host_enumerate.proofs.Frames.{with_device-at, with_device-other}
-use Rattle.host_enumerate.proofs.TakingSwitch.{IsTaken, underway-host}
-use Rattle.contest_machine.specs.Machine.{own_id}
 
 -- a walker that has taken in nothing yet
 abbrev pub starter : Topology → ℕ → Bool → Stage → List PendingWrite → Walker

@@ -1,21 +1,5 @@
 -- After a port was tried a walker is on its way before the next one, or back behind the switch.
-use Rattle.std.proofs.Common.{◌≡◌, ◌≢◌, ℕ, ◌+◌, ◌≤◌, nat_lt, Bool, true, false, eqb, List, [], ◌∷◌, Some, None, Contains, arith, subst, sym, refl, ap, ◌∙◌, if◌then◌else◌}
-use Rattle.std.proofs.lemmas.Bool.{eqb-true, ltb-false}
-use Rattle.fabric_script.specs.declared.ports.PortRef.{PortRef}
-use Rattle.fabric_script.specs.Ports.{port_at}
-use Rattle.fabric_map.specs.declared.map.Device.{Device}
-use Rattle.fabric_map.specs.Topology.{Topology, entered}
-use Rattle.fabric_map.specs.Walked.{onward, after_all_paths}
-use Rattle.fabric_map.specs.Routes.{AllRegisters}
-use Rattle.fabric_map.specs.Numbered.{paths_of}
-use Rattle.fabric_map.proofs.Steps.{closes}
-use Rattle.fabric_map.proofs.Leading.{onward_is_followed}
-use Rattle.host_enumerate.specs.Underway.{IsUnderway}
-use Rattle.host_enumerate.proofs.Meeting.{met-tagged}
-use Rattle.host_enumerate.proofs.Stepping.{followed-ports, underway-bound, underway-entry, underway-past, underway-unlinked}
-use Rattle.contest_machine.specs.declared.stages.Tried.{Tried}
-use Rattle.contest_machine.specs.declared.stages.Stage.TheVariants.{Status}
-use Rattle.contest_machine.specs.Machine.{Walker, port_after, gone_on}
+use Rattle.contest_machine.proofs.Prelude.{◌≡◌, ◌≢◌, ℕ, ◌+◌, ◌≤◌, nat_lt, Bool, true, false, eqb, List, [], ◌∷◌, Some, None, Contains, arith, subst, sym, refl, ap, ◌∙◌, if◌then◌else◌, eqb-true, ltb-false, PortRef, port_at, Device, Topology, entered, onward, after_all_paths, AllRegisters, paths_of, closes, onward_is_followed, IsUnderway, met-tagged, followed-ports, underway-bound, underway-entry, underway-past, underway-unlinked, Tried, Status, Walker, port_after, gone_on}
 use Rattle.contest_machine.proofs.Numbering.OnWay.{bound_at}
 
 -- a switch whose ports are tried

@@ -1,26 +1,5 @@
 -- A walker claims a device, and keeps it where the claim was won.
-use Rattle.std.proofs.Common.{◌≡◌, ◌≢◌, ℕ, ◌+◌, ◌%◌, ◌<◌, List, [], ◌∷◌, ◌++◌, length, Some, ◌⊎◌, inl, inr, subst, sym, refl, ap, ◌∙◌, unwrap_or}
-use Rattle.std.proofs.lemmas.Bool.{cases_eq}
-use Rattle.std.proofs.lemmas.List.Elements.{Contains-append_left}
-use Rattle.fabric_script.specs.declared.ports.PortRef.{PortRef}
-use Rattle.maint_registers.specs.Devices.{Registers}
-use Rattle.maint_registers.specs.Access.{locked}
-use Rattle.maint_registers.proofs.AccessLaws.{tag-written}
-use Rattle.fabric_map.specs.Topology.{entered, node_at}
-use Rattle.fabric_map.specs.Routes.{AllRegisters}
-use Rattle.fabric_map.specs.Numbered.{paths_of}
-use Rattle.fabric_map.proofs.Growing.{path_listed, node_at-entered}
-use Rattle.host_enumerate.specs.declared.maint.Access.TheVariants.{Write}
-use Rattle.host_enumerate.specs.Accesses.{registers_with, after_access}
-use Rattle.host_enumerate.specs.Holding.{IsTakable}
-use Rattle.host_enumerate.specs.Underway.{IsUnmet, IsUnderway}
-use Rattle.host_enumerate.proofs.Frames.{with_device-at, with_device-other}
-use Rattle.host_enumerate.proofs.Meeting.{IsMember}
-use Rattle.contest_machine.specs.declared.stages.PendingWrite.{PendingWrite}
-use Rattle.contest_machine.specs.declared.stages.Stage.{Stage}
-use Rattle.contest_machine.specs.declared.stages.Stage.TheVariants.{Claim, Check}
-use Rattle.contest_machine.specs.Machine.{Walker, own_id, write, taken}
-use Rattle.contest_machine.specs.Contest.{Keeps, IsAtPath, IsMine}
+use Rattle.contest_machine.proofs.Prelude.{◌≡◌, ◌≢◌, ℕ, ◌+◌, ◌%◌, ◌<◌, List, [], ◌∷◌, ◌++◌, length, Some, ◌⊎◌, inl, inr, subst, sym, refl, ap, ◌∙◌, unwrap_or, cases_eq, Contains-append_left, PortRef, Registers, locked, tag-written, entered, node_at, AllRegisters, paths_of, path_listed, node_at-entered, Write, registers_with, after_access, IsTakable, IsUnmet, IsUnderway, with_device-at, with_device-other, IsMember, PendingWrite, Stage, Claim, Check, Walker, own_id, write, taken, Keeps, IsAtPath, IsMine}
 use Rattle.contest_machine.proofs.Numbering.OnWay.{performed, taken_as, IsOnWay}
 use Rattle.contest_machine.proofs.Keeping.Stepped.{at_stage, one_node}
 use Rattle.contest_machine.proofs.Keeping.Reading.{lock_left, locked-free, locked-other}

@@ -1,29 +1,8 @@
 -- Each access of a walker leaves it as far as it has come, or further.
-use Rattle.std.proofs.Common.{◌≡◌, ◌≢◌, ℕ, ◌+◌, ◌*◌, ◌/◌, ◌%◌, ◌≤◌, ◌<◌, nat_lt, Bool, true, false, eqb, List, [], ◌∷◌, Option, Some, None, arith, ◌⊎◌, inl, inr, subst, sym, refl, ap, ◌∙◌, if◌then◌else◌}
-use Rattle.std.proofs.lemmas.Bool.{eqb-true, eqb-false}
-use Rattle.std.proofs.lemmas.Option.{same_Some}
-use Rattle.fabric_script.specs.declared.ports.PortRef.{PortRef}
-use Rattle.fabric_script.specs.Ports.{port_at}
-use Rattle.maint_registers.specs.Devices.{Registers, IsDevice, is_switch}
-use Rattle.fabric_map.specs.declared.map.Device.{Device}
-use Rattle.fabric_map.specs.Topology.{IsTopology, along, entered}
-use Rattle.fabric_map.specs.Routes.{AllRegisters}
-use Rattle.fabric_map.specs.Fitting.{Fits}
-use Rattle.fabric_map.proofs.Growing.{node_at-entered}
-use Rattle.host_enumerate.specs.declared.maint.Access.TheVariants.{Read, Write}
-use Rattle.host_enumerate.specs.Accesses.{answered, after_access}
-use Rattle.contest_machine.specs.declared.stages.PendingWrite.{PendingWrite}
-use Rattle.contest_machine.specs.declared.stages.Tried.{Tried}
-use Rattle.contest_machine.specs.declared.stages.Stage.{Stage}
-use Rattle.contest_machine.specs.declared.stages.Stage.TheVariants.{Ask, Claim, Check, Test, Features, Information, Status, Free, Done, Lost}
-use Rattle.contest_machine.specs.Machine.{Walker, gone_on, taken, numbered, outward}
-use Rattle.contest_machine.specs.Contest.{IsMine}
+use Rattle.contest_machine.proofs.Prelude.{◌≡◌, ◌≢◌, ℕ, ◌+◌, ◌*◌, ◌/◌, ◌%◌, ◌≤◌, ◌<◌, nat_lt, Bool, true, false, eqb, List, [], ◌∷◌, Option, Some, None, arith, ◌⊎◌, inl, inr, subst, sym, refl, ap, ◌∙◌, if◌then◌else◌, eqb-true, eqb-false, same_Some, PortRef, port_at, Registers, is_switch, Device, IsTopology, along, entered, AllRegisters, Fits, node_at-entered, Read, Write, answered, after_access, PendingWrite, Tried, Stage, Ask, Claim, Check, Test, Features, Information, Status, Free, Done, Lost, Walker, gone_on, taken, numbered, outward, IsMine, same_device, Asked, asked, last_path, but_last, freeing, judged, settled, walker_told, told_at, reached, stepped}
 use Rattle.contest_machine.proofs.Keeping.Stepped.{at_stage}
 use Rattle.contest_machine.proofs.Turns.Telling.{features_told}
 use Rattle.contest_machine.proofs.Numbering.Along.{IsHereAt, IsAlong, not_empty, front_of, port_of, here_is}
-use Rattle.maint_registers.proofs.SameLaws.{same_device}
-use Rattle.contest_machine.specs.declared.stages.Asked.{Asked}
-use Rattle.contest_machine.specs.Machine.{asked, last_path, but_last, freeing, judged, settled, walker_told, told_at, reached, stepped}
 use Rattle.contest_machine.proofs.Keeping.Reading.{read-same, lock_told, tag_told}
 use Rattle.contest_machine.proofs.Turns.Telling.{is_linked}
 use Rattle.contest_machine.proofs.Turns.Led.{IsLed}
@@ -287,8 +266,7 @@ pub step_along : (w : Walker) (old : AllRegisters) → w.id < 0xff → IsTopolog
     → Fits w.view old
     → (w.stage ≡ Features → w.next ≤ 65) → IsMine w old → IsLed w → IsAlong w old
     → IsComing (stepped w old).walker (stepped w old).registers
-step_along w old fits proper shown few mine led along =
-    go w.todo w.stage w.path few mine led along
+step_along w old fits proper shown few mine led along = go w.todo w.stage w.path few mine led along
   where
     go : (todo : List PendingWrite) (stage : Stage) (path : List ℕ)
         → (stage ≡ Features → w.next ≤ 65)

@@ -1,36 +1,9 @@
 -- Over all turns the two hosts change only what they may.
-use Rattle.std.proofs.Common.{◌≡◌, ◌≢◌, ℕ, ◌+◌, ◌≤◌, ◌<◌, List, [], ◌∷◌, length, Option, Some, None, is_some, Contains, arith, inl, inr, subst, sym, refl, ap, ◌∙◌}
-use Rattle.std.proofs.lemmas.Option.{same_Some}
-use Rattle.std.proofs.lemmas.List.Elements.{All-contains}
-use Rattle.fabric_script.specs.declared.ports.PortRef.{PortRef}
-use Rattle.fabric_map.specs.declared.map.Kind.{Kind}
-use Rattle.fabric_map.specs.declared.map.Kind.TheVariants.{Endpoint, Switch}
-use Rattle.fabric_map.specs.declared.map.Device.{Device}
-use Rattle.fabric_map.specs.Topology.{along, entered, node_at}
-use Rattle.fabric_map.specs.Walked.{Before, Walked}
-use Rattle.fabric_map.specs.Routes.{AllRegisters}
-use Rattle.fabric_map.specs.Numbered.{paths_of}
-use Rattle.fabric_map.proofs.Growing.{device_on, described-listed}
-use Rattle.fabric_map.proofs.Lists.{Contains-first}
-use Rattle.host_enumerate.specs.declared.maint.Access.TheVariants.{Write}
-use Rattle.host_enumerate.specs.Accesses.{after_access}
-use Rattle.host_enumerate.specs.Underway.{id_after}
-use Rattle.contest_machine.specs.declared.stages.PendingWrite.{PendingWrite}
-use Rattle.contest_machine.specs.declared.stages.Tried.{Tried}
-use Rattle.contest_machine.specs.declared.stages.Stage.{Stage}
-use Rattle.contest_machine.specs.declared.stages.Stage.TheVariants.{Ask, Claim, Check, Test, Features, Information, Status, Free, Done, Lost}
-use Rattle.contest_machine.specs.Machine.{Walker}
-use Rattle.contest_machine.specs.Contest.{AreOnce, IsMine}
+use Rattle.contest_machine.proofs.Prelude.{◌≡◌, ◌≢◌, ℕ, ◌+◌, ◌≤◌, ◌<◌, List, [], ◌∷◌, length, Option, Some, None, is_some, Contains, arith, inl, inr, subst, sym, refl, ap, ◌∙◌, same_Some, All-contains, PortRef, Kind, Endpoint, Switch, Device, along, entered, node_at, Before, Walked, AllRegisters, paths_of, device_on, described-listed, Contains-first, Write, after_access, id_after, PendingWrite, Tried, Stage, Ask, Claim, Check, Test, Features, Information, Status, Free, Done, Lost, Walker, AreOnce, IsMine, IsKindAt, Contains-rest, given_below, id_after-few, asked, settled, stepped, WalkerIsWithin}
 use Rattle.contest_machine.proofs.Keeping.Lists.{once-front}
 use Rattle.contest_machine.proofs.Keeping.Stepped.{at_stage}
 use Rattle.contest_machine.proofs.Numbering.Chained.{AreChained}
 use Rattle.contest_machine.proofs.Numbering.Along.{IsHere, IsAlong}
-use Rattle.fabric_map.specs.Numbered.{IsKindAt}
-use Rattle.fabric_map.proofs.Lists.{Contains-rest}
-use Rattle.host_enumerate.specs.Underway.{given_below}
-use Rattle.host_enumerate.proofs.Counting.{id_after-few}
-use Rattle.contest_machine.specs.Machine.{asked, settled, stepped}
-use Rattle.contest_machine.specs.Within.{WalkerIsWithin}
 use Rattle.contest_machine.proofs.Turns.Led.{IsLed}
 use Rattle.contest_machine.proofs.Turns.Spending.{few_kept, few_devices}
 use Rattle.contest_machine.proofs.Numbering.Coming.{IsComing}

@@ -1,18 +1,7 @@
 -- A walker that is done has numbered its fabric, and this stands whatever the other does.
-use Rattle.std.proofs.Common.{◌≡◌, ℕ, [], subst, sym, ap, ◌∙◌}
+use Rattle.contest_machine.proofs.Prelude.{◌≡◌, ℕ, [], subst, sym, ap, ◌∙◌, IsReached, after_all_paths, AllRegisters, Fits, paths_of, entries_of, IsNumbered, each_is_reached, IsUnderway, Contains-append_left, Done, Walker, fresh, Keeps}
 use mathlib.Core.Path.{fun_ext}
-use Rattle.fabric_map.specs.Topology.{IsReached}
-use Rattle.fabric_map.specs.Walked.{after_all_paths}
-use Rattle.fabric_map.specs.Routes.{AllRegisters}
-use Rattle.fabric_map.specs.Fitting.{Fits}
-use Rattle.fabric_map.specs.Numbered.{paths_of, entries_of, IsNumbered}
-use Rattle.fabric_map.proofs.Leading.{each_is_reached}
-use Rattle.host_enumerate.specs.Underway.{IsUnderway}
 use Rattle.host_enumerate.proofs.Finishing.{underway-numbered}
-use Rattle.std.proofs.lemmas.List.Elements.{Contains-append_left}
-use Rattle.contest_machine.specs.declared.stages.Stage.TheVariants.{Done}
-use Rattle.contest_machine.specs.Machine.{Walker, fresh}
-use Rattle.contest_machine.specs.Contest.{Keeps}
 use Rattle.contest_machine.proofs.Numbering.OnWay.{performed, bound_at, IsApart, IsOnWay}
 
 module _ (w : Walker) (now : AllRegisters) (is : w.stage ≡ Done) (none : w.todo ≡ [])

@@ -1,14 +1,5 @@
 -- A claim that was not won, and a device that bore the walker's ID from the first.
-use Rattle.std.proofs.Common.{◌≡◌, ◌≢◌, ℕ, ◌<◌, List, ◌∷◌, Some, ◌⊎◌, inl, inr, sym, ap, ◌∙◌}
-use Rattle.fabric_script.specs.declared.ports.PortRef.{PortRef}
-use Rattle.maint_registers.specs.Devices.{Registers}
-use Rattle.fabric_map.specs.Topology.{entered}
-use Rattle.fabric_map.specs.Routes.{AllRegisters}
-use Rattle.host_enumerate.specs.Underway.{IsUnmet}
-use Rattle.host_enumerate.proofs.Meeting.{IsMember, unmet-untagged}
-use Rattle.contest_machine.specs.declared.stages.Stage.TheVariants.{Ask, Check, Test}
-use Rattle.contest_machine.specs.Machine.{Walker, taken}
-use Rattle.contest_machine.specs.Contest.{IsAtPath}
+use Rattle.contest_machine.proofs.Prelude.{◌≡◌, ◌≢◌, ℕ, ◌<◌, List, ◌∷◌, Some, ◌⊎◌, inl, inr, sym, ap, ◌∙◌, PortRef, Registers, entered, AllRegisters, IsUnmet, IsMember, unmet-untagged, Ask, Check, Test, Walker, taken, IsAtPath}
 use Rattle.contest_machine.proofs.Numbering.OnWay.{IsOnWay}
 use Rattle.contest_machine.proofs.Keeping.Stepped.{at_stage, one_node}
 use Rattle.contest_machine.proofs.Numbering.OnWays.{with_lock, at_path_or_not, underway-stays, mixed_is}

@@ -1,32 +1,6 @@
 -- A walker that sets up a switch, or reads the status of a port, stays along its way.
-use Rattle.std.proofs.Common.{◌≡◌, ◌≢◌, ℕ, ◌+◌, ◌*◌, ◌/◌, ◌%◌, ◌≤◌, ◌<◌, ◌==◌, List, [], ◌∷◌, ◌++◌, Option, Some, None, is_some, Contains, arith, ◌⊎◌, inl, inr, subst, sym, refl, ap, ◌∙◌, if◌then◌else◌, unwrap_or}
-use Rattle.std.proofs.lemmas.Bool.{cases_eq}
-use Rattle.std.proofs.lemmas.Option.{same_Some}
-use Rattle.std.proofs.lemmas.List.Elements.{Contains-append_left, Contains-append_right}
-use Rattle.fabric_script.specs.declared.ports.PortRef.{PortRef}
-use Rattle.fabric_script.specs.Ports.{port_at}
-use Rattle.maint_registers.specs.Devices.{Registers, IsDevice, is_switch}
-use Rattle.maint_registers.proofs.AccessLaws.{port_information-read, status-read}
-use Rattle.fabric_map.specs.declared.map.Kind.TheVariants.{Switch}
-use Rattle.fabric_map.specs.declared.map.Device.{Device}
-use Rattle.fabric_map.specs.Topology.{IsTopology, entered, node_at}
-use Rattle.fabric_map.specs.Walked.{onward}
-use Rattle.fabric_map.specs.Routes.{AllRegisters}
-use Rattle.fabric_map.specs.Fitting.{Fits}
-use Rattle.fabric_map.specs.Numbered.{paths_of}
-use Rattle.fabric_map.proofs.Few.{entered-inside, entered-port}
-use Rattle.fabric_map.proofs.Growing.{device_on, paths_of-push, node_at-entered}
-use Rattle.fabric_map.proofs.Lists.{Contains-first}
-use Rattle.host_enumerate.specs.declared.maint.Access.TheVariants.{Read}
-use Rattle.host_enumerate.specs.Accesses.{answered, registers_with}
-use Rattle.host_enumerate.proofs.Frames.{with_device-at, with_device-other}
+use Rattle.contest_machine.proofs.Prelude.{◌≡◌, ◌≢◌, ℕ, ◌+◌, ◌*◌, ◌/◌, ◌%◌, ◌≤◌, ◌<◌, ◌==◌, List, [], ◌∷◌, ◌++◌, Option, Some, None, is_some, Contains, arith, ◌⊎◌, inl, inr, subst, sym, refl, ap, ◌∙◌, if◌then◌else◌, unwrap_or, cases_eq, same_Some, Contains-append_left, Contains-append_right, PortRef, port_at, Registers, port_information-read, status-read, Switch, Device, IsTopology, entered, node_at, onward, AllRegisters, Fits, paths_of, entered-inside, entered-port, device_on, paths_of-push, node_at-entered, Contains-first, Read, answered, registers_with, with_device-at, with_device-other, with_entry, met_as, underway-255, Tried, Information, Status, Walker, entry_set, gone_on, switch_set_up, outward}
 use Rattle.host_enumerate.specs.Asking.{Becomes}
-use Rattle.host_enumerate.specs.Setting.{with_entry}
-use Rattle.host_enumerate.specs.Underway.{met_as}
-use Rattle.host_enumerate.proofs.Keeping.{underway-255}
-use Rattle.contest_machine.specs.declared.stages.Tried.{Tried}
-use Rattle.contest_machine.specs.declared.stages.Stage.TheVariants.{Information, Status}
-use Rattle.contest_machine.specs.Machine.{Walker, entry_set, gone_on, switch_set_up, outward}
 use Rattle.contest_machine.proofs.Keeping.Stepped.{at_stage}
 use Rattle.contest_machine.proofs.Numbering.OnWay.{performed}
 use Rattle.contest_machine.proofs.Numbering.Settling.{performed-one, after-entry}

@@ -1,25 +1,6 @@
 -- A walker that has not taken in its host yet, and one that is over, after an access.
-use Rattle.std.proofs.Common.{◌≡◌, ◌≢◌, ℕ, ◌≤◌, ◌<◌, nat_lt, Bool, true, false, eqb, List, [], ◌∷◌, Option, Some, None, ◌⊎◌, inl, inr, subst, sym, refl, ap, ◌∙◌, if◌then◌else◌}
-use Rattle.std.proofs.lemmas.Bool.{cases_eq, eqb-true, eqb-false}
-use Rattle.fabric_script.specs.declared.ports.PortRef.{PortRef}
-use Rattle.fabric_script.specs.Ports.{port_at}
-use Rattle.maint_registers.specs.Devices.{Registers, IsDevice, is_switch}
-use Rattle.fabric_map.specs.Topology.{Topology, IsTopology, along, entered}
-use Rattle.fabric_map.specs.Routes.{AllRegisters}
-use Rattle.fabric_map.specs.Fitting.{Fits}
-use Rattle.host_enumerate.specs.declared.maint.Access.TheVariants.{Write}
-use Rattle.host_enumerate.specs.Accesses.{answered, after_access}
-use Rattle.host_enumerate.specs.Holding.{IsTakable}
-use Rattle.contest_machine.specs.declared.stages.PendingWrite.{PendingWrite}
-use Rattle.contest_machine.specs.declared.stages.Stage.{Stage}
-use Rattle.contest_machine.specs.declared.stages.Stage.TheVariants.{Ask, Claim, Check, Test, Features, Information, Status, Free, Done, Lost}
-use Rattle.contest_machine.specs.Machine.{Walker, gone_on, taken}
-use Rattle.contest_machine.specs.Contest.{IsMine}
+use Rattle.contest_machine.proofs.Prelude.{◌≡◌, ◌≢◌, ℕ, ◌≤◌, ◌<◌, nat_lt, Bool, true, false, eqb, List, [], ◌∷◌, Option, Some, None, ◌⊎◌, inl, inr, subst, sym, refl, ap, ◌∙◌, if◌then◌else◌, cases_eq, eqb-true, eqb-false, PortRef, port_at, Registers, Topology, IsTopology, along, entered, AllRegisters, Fits, Write, answered, after_access, IsTakable, PendingWrite, Stage, Ask, Claim, Check, Test, Features, Information, Status, Free, Done, Lost, Walker, gone_on, taken, IsMine, with_device-other, AreOwnUntagged, Asked, asked, last_path, but_last, freeing, judged, settled, walker_told, told_at, reached, stepped}
 use Rattle.contest_machine.proofs.Numbering.OnWay.{IsOnWay}
-use Rattle.host_enumerate.proofs.Frames.{with_device-other}
-use Rattle.host_enumerate.specs.Underway.{AreOwnUntagged}
-use Rattle.contest_machine.specs.declared.stages.Asked.{Asked}
-use Rattle.contest_machine.specs.Machine.{asked, last_path, but_last, freeing, judged, settled, walker_told, told_at, reached, stepped}
 use Rattle.contest_machine.proofs.Keeping.Reading.{lock_told, tag_told}
 use Rattle.contest_machine.proofs.Keeping.Frame.{IsTurn, unchanged}
 use Rattle.contest_machine.proofs.Turns.Led.{IsLed}

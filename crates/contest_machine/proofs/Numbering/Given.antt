@@ -1,30 +1,5 @@
 -- An endpoint that a walker keeps has its ID, and the walker is on its way past it.
-use Rattle.std.proofs.Common.{◌≡◌, ◌≢◌, ℕ, ◌+◌, ◌*◌, ◌<◌, true, false, List, [], ◌∷◌, ◌++◌, length, Some, None, Contains, arith, subst, sym, refl, ap, ◌∙◌, unwrap_or}
-use Rattle.std.proofs.lemmas.Option.{same_Some}
-use Rattle.fabric_script.specs.declared.ports.PortRef.{PortRef}
-use Rattle.maint_registers.specs.Devices.{Registers, is_switch}
-use Rattle.maint_registers.proofs.AccessLaws.{base_id-written}
-use Rattle.fabric_map.specs.declared.map.Kind.TheVariants.{Endpoint}
-use Rattle.fabric_map.specs.declared.map.Device.{Device}
-use Rattle.fabric_map.specs.Topology.{entered, node_at}
-use Rattle.fabric_map.specs.Walked.{onward}
-use Rattle.fabric_map.specs.Routes.{AllRegisters}
-use Rattle.fabric_map.specs.Fitting.{Fits}
-use Rattle.fabric_map.specs.Locked.{IsNext}
-use Rattle.fabric_map.specs.Numbered.{paths_of}
-use Rattle.fabric_map.proofs.Growing.{node_at-entered}
-use Rattle.host_enumerate.specs.declared.maint.Access.TheVariants.{Write}
-use Rattle.host_enumerate.specs.Accesses.{after_access}
-use Rattle.host_enumerate.specs.Holding.{IsTakable}
-use Rattle.host_enumerate.specs.Underway.{id_after, met_as, IsUnderway}
-use Rattle.host_enumerate.proofs.Frames.{with_device-at, with_device-other}
-use Rattle.host_enumerate.proofs.Stepping.{followed-none, underway-closed}
-use Rattle.host_enumerate.proofs.TakingSwitch.{IsTaken}
-use Rattle.host_enumerate.proofs.TakingEndpoint.{underway-endpoint}
-use Rattle.contest_machine.specs.declared.stages.PendingWrite.{PendingWrite}
-use Rattle.contest_machine.specs.declared.stages.Stage.TheVariants.{Features}
-use Rattle.contest_machine.specs.Machine.{Walker, write, routes_to}
-use Rattle.contest_machine.specs.Contest.{AreOnce}
+use Rattle.contest_machine.proofs.Prelude.{◌≡◌, ◌≢◌, ℕ, ◌+◌, ◌*◌, ◌<◌, true, false, List, [], ◌∷◌, ◌++◌, length, Some, None, Contains, arith, subst, sym, refl, ap, ◌∙◌, unwrap_or, same_Some, PortRef, Registers, is_switch, base_id-written, Endpoint, Device, entered, node_at, onward, AllRegisters, Fits, IsNext, paths_of, node_at-entered, Write, after_access, IsTakable, id_after, met_as, IsUnderway, with_device-at, with_device-other, followed-none, underway-closed, IsTaken, underway-endpoint, PendingWrite, Features, Walker, write, routes_to, AreOnce}
 use Rattle.contest_machine.proofs.Numbering.OnWay.{one_performed, performed, taken_as, IsOnWay, not_foreign}
 use Rattle.contest_machine.proofs.Keeping.Stepped.{at_stage}
 use Rattle.contest_machine.proofs.Numbering.Routed.{routes_are_routed}

@@ -1,31 +1,6 @@
 -- A switch that a walker keeps is set up: it is in the list, and the walker is on its way behind
 -- it.
-use Rattle.std.proofs.Common.{◌≡◌, ℕ, zero, suc, ◌+◌, ◌<◌, ◌==◌, Bool, true, false, eqb, List, [], ◌∷◌, ◌++◌, length, Some, Contains, arith, ◌⊎◌, inl, inr, subst, sym, refl, ap, ◌∙◌, if◌then◌else◌}
-use Rattle.std.proofs.lemmas.Bool.{eqb-true}
-use Rattle.std.proofs.lemmas.List.Elements.{Contains-append_left, Contains-append_right}
-use Rattle.fabric_script.specs.declared.ports.PortRef.{PortRef}
-use Rattle.maint_registers.specs.Devices.{Registers}
-use Rattle.fabric_map.specs.declared.map.Kind.TheVariants.{Switch}
-use Rattle.fabric_map.specs.declared.map.Device.{Device}
-use Rattle.fabric_map.specs.Topology.{entered}
-use Rattle.fabric_map.specs.Walked.{onward}
-use Rattle.fabric_map.specs.Routes.{AllRegisters}
-use Rattle.fabric_map.specs.Fitting.{Fits}
-use Rattle.fabric_map.specs.Locked.{IsNext}
-use Rattle.fabric_map.specs.Numbered.{paths_of}
-use Rattle.fabric_map.proofs.Few.{entered-inside, entered-port}
-use Rattle.fabric_map.proofs.Growing.{paths_of-push, node_at-entered}
-use Rattle.fabric_map.proofs.Lists.{Contains-first}
-use Rattle.host_enumerate.specs.Underway.{met_as, IsUnmet, IsUnderway}
-use Rattle.host_enumerate.specs.Accesses.{registers_with}
-use Rattle.host_enumerate.specs.Setting.{SwitchIsSetUp}
-use Rattle.std.proofs.lemmas.Option.{same_Some}
-use Rattle.host_enumerate.proofs.Frames.{with_device-at, with_device-other}
-use Rattle.host_enumerate.proofs.Stepping.{underway-entry}
-use Rattle.host_enumerate.proofs.TakingSwitch.{IsTaken, underway-switch}
-use Rattle.contest_machine.specs.declared.stages.PendingWrite.{PendingWrite}
-use Rattle.contest_machine.specs.declared.stages.Stage.TheVariants.{Information}
-use Rattle.contest_machine.specs.Machine.{Walker, home_set, entry_set, cleared_below, switch_set_up}
+use Rattle.contest_machine.proofs.Prelude.{◌≡◌, ℕ, zero, suc, ◌+◌, ◌<◌, ◌==◌, Bool, true, false, eqb, List, [], ◌∷◌, ◌++◌, length, Some, Contains, arith, ◌⊎◌, inl, inr, subst, sym, refl, ap, ◌∙◌, if◌then◌else◌, eqb-true, Contains-append_left, Contains-append_right, PortRef, Registers, Switch, Device, entered, onward, AllRegisters, Fits, IsNext, paths_of, entered-inside, entered-port, paths_of-push, node_at-entered, Contains-first, met_as, IsUnmet, IsUnderway, registers_with, SwitchIsSetUp, same_Some, with_device-at, with_device-other, underway-entry, IsTaken, underway-switch, PendingWrite, Information, Walker, home_set, entry_set, cleared_below, switch_set_up}
 use Rattle.contest_machine.proofs.Numbering.OnWay.{performed, taken_as, IsListed, IsApart, IsOnWay, not_foreign}
 use Rattle.contest_machine.proofs.Keeping.Stepped.{at_stage}
 use Rattle.contest_machine.proofs.Numbering.Settling.{AreAt, performed-one, after-home, device_after}

@@ -1,20 +1,5 @@
 -- The writes that are left for an endpoint's ID set one entry in each switch on the way.
-use Rattle.std.proofs.Common.{◌≡◌, ◌≢◌, ℕ, ◌<◌, true, List, [], ◌∷◌, ◌++◌, Some, Contains, arith, ◌⊎◌, inl, inr, sym, refl, ap, ◌∙◌}
-use Rattle.fabric_script.specs.declared.ports.PortRef.{PortRef}
-use Rattle.maint_registers.specs.Devices.{is_switch}
-use Rattle.fabric_map.specs.declared.map.Device.{Device}
-use Rattle.fabric_map.specs.Topology.{Topology, entered, node_at}
-use Rattle.fabric_map.specs.Routes.{AllRegisters}
-use Rattle.fabric_map.specs.Ways.{IsOpened}
-use Rattle.fabric_map.specs.Numbered.{paths_of, toward}
-use Rattle.fabric_map.proofs.Growing.{path_listed, node_at-entered}
-use Rattle.fabric_map.proofs.Lists.{Contains-first, Contains-cases}
-use Rattle.maint_registers.specs.Routes.{next_port}
-use Rattle.host_enumerate.specs.Setting.{with_entry}
-use Rattle.host_enumerate.proofs.Frames.{with_device-at}
-use Rattle.contest_machine.specs.declared.stages.PendingWrite.{PendingWrite}
-use Rattle.contest_machine.specs.Machine.{entry_set, route_pending, routes_to}
-use Rattle.contest_machine.specs.Contest.{AreOnce}
+use Rattle.contest_machine.proofs.Prelude.{◌≡◌, ◌≢◌, ℕ, ◌<◌, true, List, [], ◌∷◌, ◌++◌, Some, Contains, arith, ◌⊎◌, inl, inr, sym, refl, ap, ◌∙◌, PortRef, is_switch, Device, Topology, entered, node_at, AllRegisters, IsOpened, paths_of, toward, path_listed, node_at-entered, Contains-first, Contains-cases, next_port, with_entry, with_device-at, PendingWrite, entry_set, route_pending, routes_to, AreOnce}
 use Rattle.contest_machine.proofs.Numbering.OnWay.{one_performed, performed}
 use Rattle.contest_machine.proofs.Keeping.Lists.{Leads}
 use Rattle.contest_machine.proofs.Keeping.Turning.{route_own, routes_own}

@@ -1,18 +1,6 @@
 -- Whatever turns two hosts make, devices that neither reaches are as before.
-use Rattle.std.proofs.Common.{◌≡◌, ℕ, List, [], ◌∷◌, Option, Some, None, subst, sym, refl, ap, ◌∙◌}
-use Rattle.fabric_script.specs.declared.ports.PortRef.{PortRef}
-use Rattle.maint_registers.proofs.SameLaws.{same_device}
-use Rattle.fabric_map.specs.Topology.{Topology, entered, IsReached}
-use Rattle.fabric_map.specs.Routes.{AllRegisters}
-use Rattle.fabric_map.proofs.Growing.{node_at-entered}
-use Rattle.host_enumerate.proofs.Frames.{with_device-other}
-use Rattle.link_watch.specs.declared.side.Side.{Side}
-use Rattle.link_watch.specs.declared.side.Side.TheVariants.{A, B}
-use Rattle.contest_machine.specs.declared.stages.Asked.{Asked}
-use Rattle.contest_machine.specs.Machine.{Walker, State, wants, reached, reaches, stepped}
-use Rattle.contest_machine.specs.Turns.{walker_turned, Both, turn_of, after_turns}
+use Rattle.contest_machine.proofs.Prelude.{◌≡◌, ℕ, List, [], ◌∷◌, Option, Some, None, subst, sym, refl, ap, ◌∙◌, PortRef, same_device, Topology, entered, IsReached, AllRegisters, node_at-entered, with_device-other, Side, A, B, Asked, Walker, State, wants, reached, reaches, stepped, walker_turned, Both, turn_of, after_turns, state_of}
 use Rattle.contest_machine.proofs.Keeping.Apart.{turned_by}
-use Rattle.contest_machine.specs.Locks.{state_of}
 use Rattle.contest_machine.proofs.Turns.Lasting.{AreSameDevices, step_lasts, step_same}
 
 -- a device to which no path of a walker leads

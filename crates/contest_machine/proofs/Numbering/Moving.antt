@@ -1,24 +1,6 @@
 -- Each access leaves a walker along its way.
-use Rattle.std.proofs.Common.{◌≡◌, ◌≢◌, ◌⊎◌, inl, inr, ℕ, ◌<◌, List, [], ◌∷◌, Some, Contains, refl, subst, sym, ap, ◌∙◌}
-use Rattle.fabric_script.specs.declared.ports.PortRef.{PortRef}
-use Rattle.maint_registers.specs.Devices.{Registers, IsDevice, is_switch}
-use Rattle.fabric_map.specs.declared.map.Device.{Device}
-use Rattle.fabric_map.specs.Topology.{Topology, along, entered}
-use Rattle.fabric_map.specs.Walked.{Before, IsMet, Walked}
-use Rattle.fabric_map.specs.Routes.{AllRegisters}
-use Rattle.fabric_map.specs.Numbered.{paths_of}
-use Rattle.fabric_map.proofs.Growing.{node_at-entered}
-use Rattle.host_enumerate.specs.declared.maint.Access.TheVariants.{Write}
-use Rattle.host_enumerate.specs.Accesses.{after_access}
-use Rattle.host_enumerate.specs.Underway.{IsUnderway}
-use Rattle.host_enumerate.proofs.Meeting.{IsMember, met-tagged}
-use Rattle.host_enumerate.proofs.Stepping.{underway-past}
-use Rattle.contest_machine.specs.declared.stages.Tried.{Tried}
-use Rattle.contest_machine.specs.declared.stages.Stage.TheVariants.{Ask, Claim, Check, Test, Features, Information}
-use Rattle.contest_machine.specs.Machine.{Walker, gone_on, taken}
-use Rattle.contest_machine.specs.Contest.{IsMine}
+use Rattle.contest_machine.proofs.Prelude.{◌≡◌, ◌≢◌, ◌⊎◌, inl, inr, ℕ, ◌<◌, List, [], ◌∷◌, Some, Contains, refl, subst, sym, ap, ◌∙◌, PortRef, Registers, Device, Topology, along, entered, Before, IsMet, Walked, AllRegisters, paths_of, node_at-entered, Write, after_access, IsUnderway, IsMember, met-tagged, underway-past, Tried, Ask, Claim, Check, Test, Features, Information, Walker, gone_on, taken, IsMine, Stage}
 use Rattle.contest_machine.proofs.Keeping.Stepped.{at_stage}
-use Rattle.contest_machine.specs.declared.stages.Stage.{Stage}
 use Rattle.contest_machine.proofs.Numbering.OnWay.{IsOnWay, IsListed, IsApart, IsFresh, bound_at}
 use Rattle.contest_machine.proofs.Numbering.Claiming.{claim_on_way, won_on_way}
 use Rattle.contest_machine.proofs.Numbering.Failing.{lost_on_way, own_on_way}

@@ -1,23 +1,5 @@
 -- How far a walker has come, said of the registers as its writes that are left will make them.
-use Rattle.std.specs.Prelude.{◌≡◌, ℕ, ◌+◌, ◌⊎◌, List, [], ◌∷◌, length, Contains, Option, Some, None}
-use Rattle.std.proofs.Common.{inl, inr}
-use Rattle.fabric_script.specs.declared.ports.PortRef.{PortRef}
-use Rattle.maint_registers.specs.Devices.{Registers}
-use Rattle.fabric_map.specs.declared.map.Device.{Device}
-use Rattle.fabric_map.specs.Topology.{Topology, entered, node_at}
-use Rattle.fabric_map.specs.Walked.{onward, after_all_paths}
-use Rattle.fabric_map.specs.Routes.{AllRegisters}
-use Rattle.fabric_map.specs.Locked.{IsForeign}
-use Rattle.host_enumerate.specs.declared.maint.Access.TheVariants.{Write}
-use Rattle.host_enumerate.specs.Accesses.{after_access}
-use Rattle.host_enumerate.specs.Holding.{IsTakable}
-use Rattle.host_enumerate.specs.Underway.{IsUnmet, IsUnderway}
-use Rattle.contest_machine.specs.declared.stages.PendingWrite.{PendingWrite}
-use Rattle.contest_machine.specs.declared.stages.Tried.{Tried}
-use Rattle.contest_machine.specs.declared.stages.Stage.{Stage}
-use Rattle.contest_machine.specs.declared.stages.Stage.TheVariants.{Ask, Claim, Check, Test, Features, Information, Status, Free, Done, Lost}
-use Rattle.contest_machine.specs.Machine.{Walker}
-use Rattle.contest_machine.specs.Contest.{IsAtPath}
+use Rattle.contest_machine.proofs.Prelude.{◌≡◌, ℕ, ◌+◌, ◌⊎◌, List, [], ◌∷◌, length, Contains, Option, Some, None, inl, inr, PortRef, Registers, Device, Topology, entered, node_at, onward, after_all_paths, AllRegisters, IsForeign, Write, after_access, IsTakable, IsUnmet, IsUnderway, PendingWrite, Tried, Stage, Ask, Claim, Check, Test, Features, Information, Status, Free, Done, Lost, Walker, IsAtPath}
 
 -- what may be taken belongs to no other
 pub not_foreign : (id : ℕ) (device : Registers) → IsTakable id device
@@ -33,8 +15,7 @@ one_performed now p (Some at) = after_access now at (Write p.offset p.value)
 -- and after all
 abbrev pub performed : Topology → AllRegisters → List PendingWrite → AllRegisters
 performed view now [] = now
-performed view now (p ∷ rest) =
-    performed view (one_performed now p (entered view p.path)) rest
+performed view now (p ∷ rest) = performed view (one_performed now p (entered view p.path)) rest
 
 -- the port that is tried of the switch whose ports are tried last
 abbrev pub port_tried : List Tried → List ℕ

@@ -1,26 +1,5 @@
 -- What a walker has done stands whatever the other does.
-use Rattle.std.proofs.Common.{◌≡◌, ◌≢◌, ℕ, ◌+◌, ◌<◌, List, [], ◌∷◌, length, Option, Some, None, Contains, ◌⊎◌, inl, inr, subst, sym, refl, ap, ◌∙◌}
-use Rattle.std.proofs.lemmas.Bool.{cases_eq}
-use Rattle.std.proofs.lemmas.List.Elements.{Contains-append_left, Contains-append_right}
-use Rattle.fabric_script.specs.declared.ports.PortRef.{PortRef}
-use Rattle.maint_registers.specs.Devices.{Registers}
-use Rattle.fabric_map.specs.declared.map.Device.{Device}
-use Rattle.fabric_map.specs.Topology.{Topology, entered, node_at}
-use Rattle.fabric_map.specs.Routes.{AllRegisters}
-use Rattle.fabric_map.specs.Numbered.{paths_of}
-use Rattle.fabric_map.proofs.Growing.{path_listed}
-use Rattle.fabric_map.proofs.Lists.{Contains-first}
-use Rattle.host_enumerate.specs.declared.maint.Access.TheVariants.{Write}
-use Rattle.host_enumerate.specs.Accesses.{after_access}
-use Rattle.host_enumerate.specs.Holding.{IsTakable}
-use Rattle.host_enumerate.specs.Underway.{IsUnmet, IsUnderway}
-use Rattle.host_enumerate.proofs.Meeting.{IsMember, member_or_unmet}
-use Rattle.host_enumerate.proofs.Keeping.{underway-elsewhere}
-use Rattle.contest_machine.specs.declared.stages.PendingWrite.{PendingWrite}
-use Rattle.contest_machine.specs.declared.stages.Stage.{Stage}
-use Rattle.contest_machine.specs.declared.stages.Stage.TheVariants.{Ask, Claim, Check, Test, Features, Information, Status, Free, Done, Lost}
-use Rattle.contest_machine.specs.Machine.{Walker, kept, fresh}
-use Rattle.contest_machine.specs.Contest.{Keeps, IsAtPath, Knows, IsMine}
+use Rattle.contest_machine.proofs.Prelude.{◌≡◌, ◌≢◌, ℕ, ◌+◌, ◌<◌, List, [], ◌∷◌, length, Option, Some, None, Contains, ◌⊎◌, inl, inr, subst, sym, refl, ap, ◌∙◌, cases_eq, Contains-append_left, Contains-append_right, PortRef, Registers, Device, Topology, entered, node_at, AllRegisters, paths_of, path_listed, Contains-first, Write, after_access, IsTakable, IsUnmet, IsUnderway, IsMember, member_or_unmet, underway-elsewhere, PendingWrite, Stage, Ask, Claim, Check, Test, Features, Information, Status, Free, Done, Lost, Walker, kept, fresh, Keeps, IsAtPath, Knows, IsMine}
 use Rattle.contest_machine.proofs.Numbering.OnWay.{one_performed, performed, bound_at, IsApart, taken_as, IsFresh, IsOnWay}
 use Rattle.contest_machine.proofs.Keeping.Lists.{Leads, leads_or_not}
 use Rattle.contest_machine.proofs.Keeping.Frame.{IsTurn, unchanged, kept_stays}

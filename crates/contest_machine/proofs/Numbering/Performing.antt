@@ -1,15 +1,5 @@
 -- What the writes that are left make of two fabrics that agree, and of other devices.
-use Rattle.std.proofs.Common.{◌≡◌, ◌≢◌, ℕ, List, [], ◌∷◌, Option, Some, None, ◌⊎◌, inl, inr, sym, refl, ap, ◌∙◌}
-use Rattle.std.proofs.lemmas.Bool.{cases_eq}
-use Rattle.fabric_script.specs.declared.ports.PortRef.{PortRef}
-use Rattle.fabric_map.specs.Topology.{Topology, entered}
-use Rattle.fabric_map.specs.Routes.{AllRegisters}
-use Rattle.fabric_map.proofs.Growing.{node_at-entered}
-use Rattle.host_enumerate.specs.declared.maint.Access.TheVariants.{Write}
-use Rattle.host_enumerate.specs.Accesses.{answered, after_access}
-use Rattle.host_enumerate.proofs.Frames.{with_device-at, with_device-other}
-use Rattle.contest_machine.specs.declared.stages.PendingWrite.{PendingWrite}
-use Rattle.contest_machine.specs.Contest.{AreOwnWrites}
+use Rattle.contest_machine.proofs.Prelude.{◌≡◌, ◌≢◌, ℕ, List, [], ◌∷◌, Option, Some, None, ◌⊎◌, inl, inr, sym, refl, ap, ◌∙◌, cases_eq, PortRef, Topology, entered, AllRegisters, node_at-entered, Write, answered, after_access, with_device-at, with_device-other, PendingWrite, AreOwnWrites}
 use Rattle.contest_machine.proofs.Numbering.OnWay.{one_performed, performed}
 use Rattle.contest_machine.proofs.Keeping.Lists.{Leads}
 

@@ -1,26 +1,5 @@
 -- The writes that are left for an endpoint let each switch on its path send to it.
-use Rattle.std.proofs.Common.{◌≡◌, ◌≢◌, ℕ, ◌<◌, true, List, [], ◌∷◌, ◌++◌, Option, Some, None, Contains, ◌⊎◌, inl, inr, subst, sym, refl, ap, ◌∙◌}
-use Rattle.std.proofs.lemmas.Option.{same_Some}
-use Rattle.std.proofs.lemmas.Bool.{cases_eq}
-use Rattle.fabric_script.specs.declared.ports.PortRef.{PortRef}
-use Rattle.maint_registers.specs.Devices.{is_switch}
-use Rattle.fabric_map.specs.declared.map.Kind.{Kind}
-use Rattle.fabric_map.specs.declared.map.Kind.TheVariants.{Endpoint, Switch}
-use Rattle.fabric_map.specs.declared.map.Device.{Device}
-use Rattle.fabric_map.specs.Topology.{Topology, entered, node_at}
-use Rattle.fabric_map.specs.Walked.{Walked}
-use Rattle.fabric_map.specs.Routes.{AllRegisters}
-use Rattle.fabric_map.specs.Locked.{IsNext}
-use Rattle.fabric_map.specs.Numbered.{paths_of, toward, AreDescribed}
-use Rattle.fabric_map.proofs.Branches.{toward-further, further_from_toward}
-use Rattle.fabric_map.proofs.Fronts.{passed_listed}
-use Rattle.fabric_map.proofs.Growing.{device_on, described-listed}
-use Rattle.fabric_map.proofs.Leading.{port_of_entry}
-use Rattle.fabric_map.proofs.Lists.{Contains-first, Contains-rest}
-use Rattle.host_enumerate.specs.Setting.{with_entry, PathPasses, AreRouted}
-use Rattle.host_enumerate.proofs.TakingEndpoint.{passed_switch}
-use Rattle.contest_machine.specs.Machine.{entry_set, route_of, route_pending, routes_to}
-use Rattle.contest_machine.specs.Contest.{AreOnce}
+use Rattle.contest_machine.proofs.Prelude.{◌≡◌, ◌≢◌, ℕ, ◌<◌, true, List, [], ◌∷◌, ◌++◌, Option, Some, None, Contains, ◌⊎◌, inl, inr, subst, sym, refl, ap, ◌∙◌, same_Some, cases_eq, PortRef, is_switch, Kind, Endpoint, Switch, Device, Topology, entered, node_at, Walked, AllRegisters, IsNext, paths_of, toward, AreDescribed, toward-further, further_from_toward, passed_listed, device_on, described-listed, port_of_entry, Contains-first, Contains-rest, with_entry, PathPasses, AreRouted, passed_switch, entry_set, route_of, route_pending, routes_to, AreOnce}
 use Rattle.contest_machine.proofs.Numbering.OnWay.{performed}
 use Rattle.contest_machine.proofs.Numbering.Leading.{performed-append, one-beside, routes-passed}
 

@@ -1,19 +1,7 @@
 -- The writes that are left for a switch, made one after another, set it up.
-use Rattle.std.proofs.Common.{◌≡◌, ◌≢◌, ℕ, zero, suc, ◌+◌, ◌%◌, ◌<◌, ◌≤◌, ◌==◌, Bool, true, false, eqb, List, [], ◌∷◌, ◌++◌, length, Some, arith, ◌⊎◌, inl, inr, subst, sym, refl, ap, ◌∙◌, if◌then◌else◌, unwrap_or}
-use Rattle.std.proofs.lemmas.Bool.{cases_eq, eqb-true}
-use Rattle.fabric_script.specs.declared.ports.PortRef.{PortRef}
-use Rattle.maint_registers.specs.Devices.{Registers, is_switch}
-use Rattle.maint_registers.proofs.AccessLaws.{select-written, entry-written, default_port-written}
+use Rattle.contest_machine.proofs.Prelude.{◌≡◌, ◌≢◌, ℕ, zero, suc, ◌+◌, ◌%◌, ◌<◌, ◌≤◌, ◌==◌, Bool, true, false, eqb, List, [], ◌∷◌, ◌++◌, length, Some, arith, ◌⊎◌, inl, inr, subst, sym, refl, ap, ◌∙◌, if◌then◌else◌, unwrap_or, cases_eq, eqb-true, PortRef, Registers, is_switch, select-written, entry-written, default_port-written, Topology, entered, AllRegisters, Write, answered, registers_with, after_access, with_entry, IsCleared, SwitchIsSetUp, with_device-at, with_device-other, with_device-itself, PendingWrite, entry_set, cleared_below, home_set}
 use Rattle.maint_registers.proofs.RouteLaws.{entry-set_same, entry-set_other}
-use Rattle.fabric_map.specs.Topology.{Topology, entered}
-use Rattle.fabric_map.specs.Routes.{AllRegisters}
-use Rattle.host_enumerate.specs.declared.maint.Access.TheVariants.{Write}
-use Rattle.host_enumerate.specs.Accesses.{answered, registers_with, after_access}
-use Rattle.host_enumerate.specs.Setting.{with_entry, IsCleared, SwitchIsSetUp}
-use Rattle.host_enumerate.proofs.Frames.{with_device-at, with_device-other, with_device-itself}
 use Rattle.host_enumerate.proofs.Clearing.{same_but-entry, cleared-none, cleared-next, cleared-past, is_switch-kind}
-use Rattle.contest_machine.specs.declared.stages.PendingWrite.{PendingWrite}
-use Rattle.contest_machine.specs.Machine.{entry_set, cleared_below, home_set}
 use Rattle.contest_machine.proofs.Numbering.OnWay.{one_performed, performed}
 
 -- one device after writes to it

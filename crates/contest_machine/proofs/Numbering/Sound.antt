@@ -1,10 +1,5 @@
 -- What registers show of a fabric they go on to show, whatever is written.
-use Rattle.fabric_script.specs.declared.ports.PortRef.{PortRef}
-use Rattle.fabric_map.specs.Topology.{Topology}
-use Rattle.fabric_map.specs.Routes.{AllRegisters}
-use Rattle.fabric_map.specs.Fitting.{Fits}
-use Rattle.host_enumerate.specs.declared.maint.Access.{Access}
-use Rattle.host_enumerate.specs.Accesses.{answered, after_access}
+use Rattle.contest_machine.proofs.Prelude.{PortRef, Topology, AllRegisters, Fits, Access, answered, after_access}
 use Rattle.host_enumerate.proofs.AccessKeeps.{access_keeps}
 use Rattle.host_enumerate.proofs.Accessed.{fits-with}
 

@@ -1,32 +1,6 @@
 -- A walker that takes in an endpoint or a switch, or finds a link, stays along its way.
-use Rattle.std.proofs.Common.{◌≡◌, ◌≢◌, ℕ, ◌+◌, ◌*◌, ◌/◌, ◌%◌, ◌^◌, ◌≤◌, ◌<◌, Bool, true, false, eqb, List, [], ◌∷◌, ◌++◌, length, Option, Some, None, is_some, Contains, arith, ◌⊎◌, inl, inr, subst, sym, refl, ap, ◌∙◌, if◌then◌else◌, unwrap_or, ne_eqb}
-use Rattle.std.specs.Option.{option_and_then}
-use Rattle.std.proofs.lemmas.Bool.{cases_eq}
-use Rattle.std.proofs.lemmas.Option.{same_Some}
-use Rattle.std.proofs.lemmas.List.Elements.{Contains-append_left}
-use Rattle.fabric_script.specs.declared.ports.PortRef.{PortRef}
-use Rattle.fabric_script.specs.Ports.{port_at}
-use Rattle.maint_registers.specs.Devices.{Registers, IsDevice, is_switch}
-use Rattle.fabric_map.specs.declared.map.Kind.TheVariants.{Endpoint}
-use Rattle.fabric_map.specs.declared.map.Device.{Device}
-use Rattle.fabric_map.specs.Topology.{Topology, IsTopology, device_ports, behind_port, along, ports_followed, entered, node_at}
-use Rattle.fabric_map.specs.Walked.{Walked}
-use Rattle.fabric_map.specs.Routes.{AllRegisters}
-use Rattle.fabric_map.specs.Fitting.{Fits}
-use Rattle.fabric_map.specs.Locked.{IsNext}
-use Rattle.fabric_map.specs.Numbered.{paths_of, AreDescribed}
-use Rattle.fabric_map.proofs.Few.{entered-inside}
-use Rattle.fabric_map.proofs.Fronts.{passed_listed}
-use Rattle.fabric_map.proofs.Growing.{device_on, paths_of-push, described-listed, node_at-entered}
-use Rattle.fabric_map.proofs.Leading.{along-append}
-use Rattle.fabric_map.proofs.Ways.{behind-link, followed-switch}
-use Rattle.host_enumerate.specs.Holding.{IsTakable}
-use Rattle.host_enumerate.specs.Underway.{id_after, met_as, IsUnmet, IsUnderway}
+use Rattle.contest_machine.proofs.Prelude.{◌≡◌, ◌≢◌, ℕ, ◌+◌, ◌*◌, ◌/◌, ◌%◌, ◌^◌, ◌≤◌, ◌<◌, Bool, true, false, eqb, List, [], ◌∷◌, ◌++◌, length, Option, Some, None, is_some, Contains, arith, ◌⊎◌, inl, inr, subst, sym, refl, ap, ◌∙◌, if◌then◌else◌, unwrap_or, ne_eqb, option_and_then, cases_eq, same_Some, Contains-append_left, PortRef, port_at, Registers, IsDevice, is_switch, Endpoint, Device, Topology, IsTopology, device_ports, behind_port, along, ports_followed, entered, node_at, Walked, AllRegisters, Fits, IsNext, paths_of, AreDescribed, entered-inside, passed_listed, device_on, paths_of-push, described-listed, node_at-entered, along-append, behind-link, followed-switch, IsTakable, id_after, met_as, IsUnmet, IsUnderway, endpoint_at, Features, Walker, write, routes_to, numbered, IsMine}
 use Rattle.host_enumerate.proofs.Shown.{endpoint_shown}
-use Rattle.host_enumerate.proofs.TakingEndpoint.{endpoint_at}
-use Rattle.contest_machine.specs.declared.stages.Stage.TheVariants.{Features}
-use Rattle.contest_machine.specs.Machine.{Walker, write, routes_to, numbered}
-use Rattle.contest_machine.specs.Contest.{IsMine}
 use Rattle.contest_machine.proofs.Keeping.Lists.{once-front}
 use Rattle.contest_machine.proofs.Keeping.Stepped.{at_stage}
 use Rattle.contest_machine.proofs.Numbering.OnWay.{performed, IsOnWay}

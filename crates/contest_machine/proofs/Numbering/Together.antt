@@ -1,24 +1,8 @@
 -- What the two hosts together leave of the first registers.
-use Rattle.std.proofs.Common.{◌≡◌, ◌≢◌, ℕ, ◌<◌, Bool, true, false, List, [], ◌∷◌, Contains, subst, sym, refl, ap, ◌∙◌, if◌then◌else◌}
-use Rattle.maint_registers.specs.Devices.{Registers, IsSameDevice, is_switch}
-use Rattle.maint_registers.specs.Routes.{entry_of}
-use Rattle.fabric_map.specs.Routes.{AllRegisters}
-use Rattle.fabric_map.proofs.Growing.{node_at-entered}
-use Rattle.fabric_map.proofs.Lists.{Contains-first, Contains-rest}
-use Rattle.host_enumerate.specs.Underway.{AreOwnUntagged}
-use Rattle.link_watch.specs.declared.side.Side.{Side}
-use Rattle.link_watch.specs.declared.side.Side.TheVariants.{A, B}
-use Rattle.contest_machine.specs.declared.stages.PendingWrite.{PendingWrite}
-use Rattle.contest_machine.specs.Machine.{Walker, State, kept, stepped}
-use Rattle.contest_machine.specs.Turns.{is_locking, locked_on, walker_turned, Both, turn_of, after_turns}
-use Rattle.contest_machine.specs.Contest.{AreOwnWrites, IsMine}
-use Rattle.contest_machine.specs.Keeping.{IsNew}
+use Rattle.contest_machine.proofs.Prelude.{◌≡◌, ◌≢◌, ℕ, ◌<◌, Bool, true, false, List, [], ◌∷◌, Contains, subst, sym, refl, ap, ◌∙◌, if◌then◌else◌, Registers, IsSameDevice, is_switch, entry_of, AllRegisters, node_at-entered, Contains-first, Contains-rest, AreOwnUntagged, Side, A, B, PendingWrite, Walker, State, kept, stepped, is_locking, locked_on, walker_turned, Both, turn_of, after_turns, AreOwnWrites, IsMine, IsNew, walker_of, state_of, AreBegun, TurnsLeaveOthers}
 use Rattle.contest_machine.proofs.Keeping.Frame.{IsTurn, kept_stays}
 use Rattle.contest_machine.proofs.Keeping.Apart.{step_leaves}
-use Rattle.contest_machine.specs.Locks.{walker_of, state_of}
-use Rattle.contest_machine.specs.Going.{AreBegun}
 use Rattle.contest_machine.proofs.Turns.Lasting.{step_lasts}
-use Rattle.contest_machine.specs.Numbering.{TurnsLeaveOthers}
 use Rattle.contest_machine.proofs.Numbering.Pairing.{HeadOk}
 use Rattle.contest_machine.proofs.Numbering.Careful.{IsCareful, LeavesEntry}
 use Rattle.contest_machine.proofs.Numbering.Contested.{step_keeping}

@@ -1,28 +1,11 @@
 -- Over all turns a host comes along its way, and its map stays once it is done.
-use Rattle.std.proofs.Common.{◌≡◌, ◌≢◌, ◌≤◌, Bool, true, false, List, [], ◌∷◌, Option, Some, None, arith, ◌⊎◌, inl, inr, subst, sym, refl, ap, ◌∙◌, if◌then◌else◌}
-use Rattle.fabric_script.specs.declared.ports.PortRef.{PortRef}
-use Rattle.fabric_map.specs.Topology.{Topology, entered}
-use Rattle.fabric_map.specs.Routes.{AllRegisters}
-use Rattle.fabric_map.specs.Fitting.{Fits}
-use Rattle.host_enumerate.specs.Underway.{AreOwnUntagged}
-use Rattle.link_watch.specs.declared.side.Side.{Side}
-use Rattle.link_watch.specs.declared.side.Side.TheVariants.{A, B}
-use Rattle.contest_machine.specs.declared.stages.Asked.{Asked}
-use Rattle.contest_machine.specs.declared.stages.Stage.TheVariants.{Ask, Features, Done}
-use Rattle.contest_machine.specs.Machine.{Walker, State, fresh, wants, reached, reaches, stepped}
-use Rattle.contest_machine.specs.Turns.{is_locking, locked_on, walker_turned, Both, turn_of, after_turns}
-use Rattle.contest_machine.specs.Contest.{IsMine}
-use Rattle.contest_machine.specs.Keeping.{IsNew}
-use Rattle.contest_machine.specs.Within.{IsBoundedAt, WalkerIsWithin}
+use Rattle.contest_machine.proofs.Prelude.{◌≡◌, ◌≢◌, ◌≤◌, Bool, true, false, List, [], ◌∷◌, Option, Some, None, arith, ◌⊎◌, inl, inr, subst, sym, refl, ap, ◌∙◌, if◌then◌else◌, PortRef, Topology, entered, AllRegisters, Fits, AreOwnUntagged, Side, A, B, Asked, Ask, Features, Done, Walker, State, fresh, wants, reached, reaches, stepped, is_locking, locked_on, walker_turned, Both, turn_of, after_turns, IsMine, IsNew, IsBoundedAt, WalkerIsWithin, walker_of, state_of, AreBegun, HasNumbered, KeepsItsMap, DoneKeepsItsMap, OneIsDone}
 use Rattle.contest_machine.proofs.Keeping.Apart.{step_leaves, turned_by, turns_keep_apart}
 use Rattle.contest_machine.proofs.Keeping.Frame.{IsTurn}
-use Rattle.contest_machine.specs.Locks.{walker_of, state_of}
-use Rattle.contest_machine.specs.Going.{AreBegun, HasNumbered}
 use Rattle.contest_machine.proofs.Turns.Lasting.{step_lasts}
 use Rattle.contest_machine.proofs.Turns.Spending.{few_kept, few_devices}
 use Rattle.contest_machine.proofs.Turns.Fair.{AreFair, swap_fair, step_fair, begun_fair}
 use Rattle.contest_machine.proofs.Turns.Counted.{begun_for}
-use Rattle.contest_machine.specs.Numbering.{KeepsItsMap, DoneKeepsItsMap, OneIsDone}
 use Rattle.contest_machine.proofs.Numbering.Sound.{fits_after}
 use Rattle.contest_machine.proofs.Numbering.Begins.{starter, StartKnows, IsStarting}
 use Rattle.contest_machine.proofs.Numbering.Along.{IsAlong}
@@ -300,10 +283,8 @@ done_map before w o now ready done = come ready.come
 
 done_for : (before : AllRegisters) (both : Both) (side : Side) → ReadyFor before both side
     → HasNumbered (walker_of both side) → KeepsItsMap (walker_of both side) both.registers
-done_for before both A ready done =
-    done_map before both.first both.second both.registers ready done
-done_for before both B ready done =
-    done_map before both.second both.first both.registers ready done
+done_for before both A ready done = done_map before both.first both.second both.registers ready done
+done_for before both B ready done = done_map before both.second both.first both.registers ready done
 
 pub done_keeps_its_map : DoneKeepsItsMap
 done_keeps_its_map both turns side begun untagged done =

@@ -1,19 +1,6 @@
 -- Once the other host is lost, a host waits no more and is done in the end.
-use Rattle.std.proofs.Common.{◌≡◌, ◌≢◌, ℕ, ◌+◌, ◌≤◌, List, [], ◌∷◌, ◌++◌, arith, ◌⊎◌, inl, inr, subst, sym, refl, ap, ◌∙◌}
-use Rattle.fabric_map.specs.Routes.{AllRegisters}
-use Rattle.link_watch.specs.declared.side.Side.{Side}
-use Rattle.link_watch.specs.declared.side.Side.TheVariants.{A, B}
-use Rattle.contest_machine.specs.declared.stages.PendingWrite.{PendingWrite}
-use Rattle.contest_machine.specs.declared.stages.Turn.{Turn}
+use Rattle.contest_machine.proofs.Prelude.{◌≡◌, ◌≢◌, ℕ, ◌+◌, ◌≤◌, List, [], ◌∷◌, ◌++◌, arith, ◌⊎◌, inl, inr, subst, sym, refl, ap, ◌∙◌, AllRegisters, Side, A, B, PendingWrite, Turn, Stage, Ask, Claim, Check, Test, Features, Information, Status, Free, Done, Lost, Walker, waits_or_goes, ends, came_at, Both, turn_of, after_turns, HoldsOn, walker_of, side_answer, locks_in_turn, HasLesser, going_one, going_in_turn, turns_of, HasNumbered, IsLeftAlone, AloneIsNoWait, AloneIsDone}
 use Rattle.contest_machine.specs.declared.stages.Turn.TheVariants as Turns
-use Rattle.contest_machine.specs.declared.stages.Stage.{Stage}
-use Rattle.contest_machine.specs.declared.stages.Stage.TheVariants.{Ask, Claim, Check, Test, Features, Information, Status, Free, Done, Lost}
-use Rattle.contest_machine.specs.Machine.{Walker}
-use Rattle.contest_machine.specs.Turns.{waits_or_goes, ends, came_at, Both, turn_of, after_turns}
-use Rattle.contest_machine.specs.Keeping.{HoldsOn}
-use Rattle.contest_machine.specs.Locks.{walker_of, side_answer, locks_in_turn}
-use Rattle.contest_machine.specs.Waiting.{HasLesser}
-use Rattle.contest_machine.specs.Going.{going_one, going_in_turn, turns_of, HasNumbered, IsLeftAlone, AloneIsNoWait, AloneIsDone}
 use Rattle.contest_machine.proofs.Turns.Steps.{after_more}
 use Rattle.contest_machine.proofs.Turns.Judging.{lost_stage}
 use Rattle.contest_machine.proofs.Turns.WaitingTurns.{turns_stand, turn_waits, new_between}
@@ -69,7 +56,7 @@ numbered_over both side [] done = done
 numbered_over both side (turn ∷ turns) done =
     numbered_over (turn_of both turn) side turns (numbered_turn both side turn done)
 
-done_stage : (w after : Walker) (stage : Stage) → came_at w after stage ≡ Turns.Done
+pub done_stage : (w after : Walker) (stage : Stage) → came_at w after stage ≡ Turns.Done
     → (stage ≡ Done) × (after.todo ≡ [])
 done_stage w after Ask is = absurd (waiting w.todo after.todo is)
   where

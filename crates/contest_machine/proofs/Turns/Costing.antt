@@ -1,20 +1,6 @@
 -- How many turns a walker has left at most, and how many locks it may still take.
-use Rattle.std.proofs.Common.{◌≡◌, ◌≢◌, ℕ, zero, suc, ◌+◌, ◌*◌, ◌-◌, ◌≤◌, ◌==◌, nat_lt, Bool, true, false, eqb, List, [], ◌∷◌, ◌++◌, length, Option, Some, None, arith, refl, if◌then◌else◌, length-append}
-use Rattle.std.proofs.lemmas.Bool.{ltb-true}
-use Rattle.fabric_script.specs.declared.ports.PortRef.{PortRef}
-use Rattle.fabric_map.specs.declared.map.Kind.{Kind}
-use Rattle.fabric_map.specs.declared.map.Kind.TheVariants.{Endpoint, Switch}
-use Rattle.fabric_map.specs.declared.map.Device.{Device}
-use Rattle.fabric_map.specs.Topology.{entered}
-use Rattle.fabric_map.specs.Routes.{AllRegisters}
-use Rattle.fabric_map.specs.Numbered.{toward}
-use Rattle.contest_machine.specs.declared.stages.Tried.{Tried}
-use Rattle.contest_machine.specs.declared.stages.Turn.{Turn}
+use Rattle.contest_machine.proofs.Prelude.{◌≡◌, ◌≢◌, ℕ, zero, suc, ◌+◌, ◌*◌, ◌-◌, ◌≤◌, ◌==◌, nat_lt, Bool, true, false, eqb, List, [], ◌∷◌, ◌++◌, length, Option, Some, None, arith, refl, if◌then◌else◌, length-append, ltb-true, PortRef, Kind, Endpoint, Switch, Device, entered, AllRegisters, toward, Tried, Turn, Stage, Ask, Claim, Check, Test, Features, Information, Status, Free, Done, Lost, Walker, entry_set, route_of, route_pending, routes_to, cleared_below, home_set, own_id, write, last_path, but_last, freeing, port_after, gone_on, taken, going_one}
 use Rattle.contest_machine.specs.declared.stages.Turn.TheVariants as Turns
-use Rattle.contest_machine.specs.declared.stages.Stage.{Stage}
-use Rattle.contest_machine.specs.declared.stages.Stage.TheVariants.{Ask, Claim, Check, Test, Features, Information, Status, Free, Done, Lost}
-use Rattle.contest_machine.specs.Machine.{Walker, entry_set, route_of, route_pending, routes_to, cleared_below, home_set, own_id, write, last_path, but_last, freeing, port_after, gone_on, taken}
-use Rattle.contest_machine.specs.Going.{going_one}
 
 -- ---- how much is left
 
@@ -42,8 +28,7 @@ if_failed false = 2
 
 abbrev pub turns_left_at : Walker → AllRegisters → Stage → ℕ
 turns_left_at w now Ask = sought w + 6
-turns_left_at w now Claim =
-    sought w + 5 + if_failed (lock_is now 0xffff (entered w.view w.path))
+turns_left_at w now Claim = sought w + 5 + if_failed (lock_is now 0xffff (entered w.view w.path))
 turns_left_at w now Check = sought w + 4 + if_failed (lock_is now w.id (entered w.view w.path))
 turns_left_at w now Test = sought w + 4
 turns_left_at w now Features = sought w + 1
@@ -64,8 +49,7 @@ if_won false = 0
 abbrev pub claims_left_at : Walker → AllRegisters → Stage → ℕ
 claims_left_at w now Ask = room w.devices
 claims_left_at w now Claim = room w.devices
-claims_left_at w now Check =
-    room w.devices - if_won (lock_is now w.id (entered w.view w.path))
+claims_left_at w now Check = room w.devices - if_won (lock_is now w.id (entered w.view w.path))
 claims_left_at w now Test = room w.devices
 claims_left_at w now Features = room w.devices - 1
 claims_left_at w now Information = room w.devices - 1
@@ -81,9 +65,7 @@ claims_left w now = claims_left_at w now w.stage
 
 pub going_most : (turn : Turn) → going_one turn ≤ 1
 going_most Turns.Going = omega arith
-going_most Turns.Waiting = omega arith
-going_most Turns.Done = omega arith
-going_most Turns.Lost = omega arith
+going_most _ = omega arith
 
 route_most : (at : List ℕ) (id : ℕ) (kind : Kind) (port : Option ℕ)
     → length (route_of at id kind port) ≤ 2

@@ -1,20 +1,6 @@
 -- Over all turns a host goes on no more often than it has turns left at first.
-use Rattle.std.proofs.Common.{◌≡◌, ℕ, ◌+◌, ◌*◌, ◌≤◌, Bool, true, false, List, [], ◌∷◌, ◌++◌, length, Contains, arith, subst, sym, refl, ap, ◌∙◌, if◌then◌else◌}
-use Rattle.maint_registers.proofs.SameLaws.{same_device}
-use Rattle.fabric_map.specs.Routes.{AllRegisters}
-use Rattle.fabric_map.specs.Numbered.{paths_of}
-use Rattle.fabric_map.proofs.Lists.{not_in_empty}
-use Rattle.link_watch.specs.declared.side.Side.{Side}
-use Rattle.link_watch.specs.declared.side.Side.TheVariants.{A, B}
-use Rattle.contest_machine.specs.declared.stages.Stage.{Stage}
-use Rattle.contest_machine.specs.declared.stages.Stage.TheVariants.{Ask, Claim, Check, Test, Features, Information, Status, Free, Done, Lost}
-use Rattle.contest_machine.specs.Machine.{Walker, State, kept, fresh, stepped}
-use Rattle.contest_machine.specs.Turns.{is_locking, locked_on, walker_turned, came_at, came_of, Both, turn_of, after_turns}
-use Rattle.contest_machine.specs.Keeping.{IsNew}
-use Rattle.contest_machine.specs.Within.{AreShort, IsBoundedAt, WalkerIsWithin}
+use Rattle.contest_machine.proofs.Prelude.{◌≡◌, ℕ, ◌+◌, ◌*◌, ◌≤◌, Bool, true, false, List, [], ◌∷◌, ◌++◌, length, Contains, arith, subst, sym, refl, ap, ◌∙◌, if◌then◌else◌, same_device, AllRegisters, paths_of, not_in_empty, Side, A, B, Stage, Ask, Claim, Check, Test, Features, Information, Status, Free, Done, Lost, Walker, State, kept, fresh, stepped, is_locking, locked_on, walker_turned, came_at, came_of, Both, turn_of, after_turns, IsNew, AreShort, IsBoundedAt, WalkerIsWithin, walker_of, going_one, going_in_turn, going_over, AreBegun, GoingIsBounded}
 use Rattle.contest_machine.proofs.Keeping.Apart.{begun_holds, turned_by}
-use Rattle.contest_machine.specs.Locks.{walker_of}
-use Rattle.contest_machine.specs.Going.{going_one, going_in_turn, going_over, AreBegun, GoingIsBounded}
 use Rattle.contest_machine.proofs.Turns.Led.{new_led}
 use Rattle.contest_machine.proofs.Turns.WaitingTurns.{came_same}
 use Rattle.contest_machine.proofs.Turns.Costing.{ports_left, room, turns_left_at, turns_left, claims_left_at, claims_left, going_most}

@@ -1,22 +1,9 @@
 -- Each turn that goes on leaves a host fewer turns, and no turn of the other gives it more than the
 -- other pays for.
-use Rattle.std.proofs.Common.{◌≡◌, ◌≢◌, ℕ, ◌+◌, ◌*◌, ◌≤◌, ◌<◌, Bool, true, false, Option, Some, None, arith, subst, sym, refl, ap, ◌∙◌, eq-eqb}
-use Rattle.std.proofs.lemmas.Bool.{eqb-true, eqb-false}
-use Rattle.fabric_script.specs.declared.ports.PortRef.{PortRef}
-use Rattle.maint_registers.specs.Devices.{Registers}
-use Rattle.fabric_map.specs.Topology.{entered}
-use Rattle.fabric_map.specs.Routes.{AllRegisters}
-use Rattle.fabric_map.specs.Fitting.{Fits}
-use Rattle.contest_machine.specs.declared.stages.Stage.{Stage}
-use Rattle.contest_machine.specs.declared.stages.Stage.TheVariants.{Ask, Claim, Check, Test, Features, Information, Status, Free, Done, Lost}
-use Rattle.contest_machine.specs.Machine.{Walker, stepped}
-use Rattle.contest_machine.specs.Turns.{came_of}
-use Rattle.contest_machine.specs.Contest.{IsMine, IsContest}
-use Rattle.contest_machine.specs.Within.{WalkerIsWithin}
+use Rattle.contest_machine.proofs.Prelude.{◌≡◌, ◌≢◌, ℕ, ◌+◌, ◌*◌, ◌≤◌, ◌<◌, Bool, true, false, Option, Some, None, arith, subst, sym, refl, ap, ◌∙◌, eq-eqb, eqb-true, eqb-false, PortRef, Registers, entered, AllRegisters, Fits, Stage, Ask, Claim, Check, Test, Features, Information, Status, Free, Done, Lost, Walker, stepped, came_of, IsMine, IsContest, WalkerIsWithin, going_one}
 use Rattle.contest_machine.proofs.Keeping.Frame.{Does, Nothing, Writes, Takes, Frees, IsTurn, untouched}
 use Rattle.contest_machine.proofs.Keeping.Apart.{swap, step_leaves, step_holds, begun_contest}
 use Rattle.contest_machine.proofs.Keeping.Bounding.{stepped_within}
-use Rattle.contest_machine.specs.Going.{going_one}
 use Rattle.contest_machine.proofs.Turns.Lasting.{AreSameDevices, step_lasts, step_same}
 use Rattle.contest_machine.proofs.Turns.Led.{IsLed, step_led, begun_led}
 use Rattle.contest_machine.proofs.Turns.Costing.{lock_is, if_failed, turns_left_at, turns_left, if_won, claims_left_at, claims_left}

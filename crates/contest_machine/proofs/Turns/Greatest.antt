@@ -1,18 +1,6 @@
 -- The greater of two hosts holds on, on either side, and who has ended stays so.
-use Rattle.std.proofs.Common.{◌≡◌, ◌≢◌, ◌<◌, Bool, true, false, List, [], ◌∷◌, None, ◌⊎◌, inl, inr, subst, sym, refl, ap, ◌∙◌, if◌then◌else◌}
-use Rattle.std.proofs.lemmas.Bool.{cases_order}
-use Rattle.fabric_map.specs.Routes.{AllRegisters}
-use Rattle.link_watch.specs.Sides.{other_side}
-use Rattle.link_watch.specs.declared.side.Side.{Side}
-use Rattle.link_watch.specs.declared.side.Side.TheVariants.{A, B}
-use Rattle.contest_machine.specs.declared.stages.Stage.{Stage}
-use Rattle.contest_machine.specs.declared.stages.Stage.TheVariants.{Lost}
-use Rattle.contest_machine.specs.Machine.{Walker, State, wants, wants_at, wants_with, reaches, stepped}
-use Rattle.contest_machine.specs.Turns.{is_locking, locked_on, walker_turned, Both, turn_of, after_turns}
-use Rattle.contest_machine.specs.Keeping.{HoldsOn}
+use Rattle.contest_machine.proofs.Prelude.{◌≡◌, ◌≢◌, ◌<◌, Bool, true, false, List, [], ◌∷◌, None, ◌⊎◌, inl, inr, subst, sym, refl, ap, ◌∙◌, if◌then◌else◌, cases_order, AllRegisters, other_side, Side, A, B, Stage, Lost, Walker, State, wants, wants_at, wants_with, reaches, stepped, is_locking, locked_on, walker_turned, Both, turn_of, after_turns, HoldsOn, walker_of, state_of, AreBegun, IsUnlocked, IsLeftAlone}
 use Rattle.contest_machine.proofs.Keeping.Greater.{greater_holds_on}
-use Rattle.contest_machine.specs.Locks.{walker_of, state_of}
-use Rattle.contest_machine.specs.Going.{AreBegun, IsUnlocked, IsLeftAlone}
 
 -- ---- the greater of two hosts, on either side
 
@@ -77,8 +65,7 @@ alone_holds both earlier turns side alone =
         ⊎ ((walker_of both side).id < (walker_of both (other_side side)).id))
         → HoldsOn (walker_of (after_turns both turns) side).stage
     go side alone (inl same) = absurd (differ side same)
-    go side alone (inr (inl less)) =
-        greater_for both turns side alone.begun alone.unlocked less
+    go side alone (inr (inl less)) = greater_for both turns side alone.begun alone.unlocked less
     go side alone (inr (inr more)) = absurd (greater side alone more)
 
 -- ---- a walker that has ended

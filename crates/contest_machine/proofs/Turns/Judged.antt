@@ -1,26 +1,7 @@
 -- Each access leaves a walker as the locks that it has read judge it.
-use Rattle.std.proofs.Common.{◌≡◌, ◌≢◌, ℕ, ◌+◌, ◌*◌, ◌/◌, ◌%◌, ◌<◌, ◌↔◌, nat_lt, Bool, true, false, eqb, List, [], ◌∷◌, ◌++◌, append-nil, Option, Some, None, Contains, arith, ◌⊎◌, inl, inr, subst, sym, refl, ◌∙◌, if◌then◌else◌}
-use Rattle.std.proofs.lemmas.Bool.{eqb-true, eqb-false, ltb-true, ltb-false}
-use Rattle.std.proofs.lemmas.List.Elements.{Contains-append_right, Contains-append_cases}
-use Rattle.fabric_script.specs.declared.ports.PortRef.{PortRef}
-use Rattle.fabric_map.specs.declared.map.Kind.TheVariants.{Endpoint}
-use Rattle.fabric_map.specs.declared.map.Device.{Device}
-use Rattle.fabric_map.specs.Topology.{entered}
-use Rattle.fabric_map.specs.Routes.{AllRegisters}
-use Rattle.fabric_map.proofs.Lists.{Contains-first, Contains-cases, not_in_empty}
-use Rattle.host_enumerate.specs.declared.maint.Access.TheVariants.{Read, Write}
-use Rattle.host_enumerate.specs.Accesses.{answered}
-use Rattle.host_enumerate.specs.Underway.{id_after, met_as}
-use Rattle.contest_machine.specs.declared.stages.Asked.{Asked}
-use Rattle.contest_machine.specs.declared.stages.PendingWrite.{PendingWrite}
-use Rattle.contest_machine.specs.declared.stages.Tried.{Tried}
-use Rattle.contest_machine.specs.declared.stages.Stage.{Stage}
-use Rattle.contest_machine.specs.declared.stages.Stage.TheVariants.{Ask, Claim, Check, Test, Features, Information, Status, Free, Done, Lost}
-use Rattle.contest_machine.specs.Machine.{Walker, asked, write, routes_to, last_path, but_last, freeing, gone_on, taken, judged, numbered, outward, settled, walker_told, told_at, reached, stepped}
+use Rattle.contest_machine.proofs.Prelude.{◌≡◌, ◌≢◌, ℕ, ◌+◌, ◌*◌, ◌/◌, ◌%◌, ◌<◌, nat_lt, Bool, true, false, eqb, List, [], ◌∷◌, ◌++◌, append-nil, Option, Some, None, Contains, arith, ◌⊎◌, inl, inr, subst, sym, refl, if◌then◌else◌, eqb-true, eqb-false, ltb-true, ltb-false, Contains-append_right, Contains-append_cases, PortRef, Endpoint, Device, entered, AllRegisters, Contains-first, Contains-cases, not_in_empty, Read, Write, answered, id_after, met_as, Asked, PendingWrite, Tried, Stage, Ask, Claim, Check, Test, Features, Information, Status, Free, Done, Lost, Walker, asked, write, routes_to, last_path, but_last, freeing, gone_on, taken, judged, numbered, outward, settled, walker_told, told_at, reached, stepped, lock_at, lock_next, state_of, HasGreater}
 use Rattle.contest_machine.proofs.Keeping.Reading.{lock_told}
 use Rattle.contest_machine.proofs.Keeping.Stepped.{some_left}
-use Rattle.contest_machine.specs.Locks.{lock_at, lock_next, state_of}
-use Rattle.contest_machine.specs.Waiting.{HasGreater}
 use Rattle.contest_machine.proofs.Turns.Steps.{gone_by, status_reads_none}
 
 -- What a walker with this ID, which has read these locks, keeps: it frees it if one was greater,
@@ -56,8 +37,7 @@ none_more id lock locks none not found =
     go (Contains-append_cases locks (lock ∷ []) found.0 found.1)
   where
     here : (lock ≡ found.0) ⊎ Contains [] found.0 → ⊥
-    here (inl same) =
-        not (subst (λ n. (id < n) × (n ≢ 0xffff)) (sym same) (found.2, found.3))
+    here (inl same) = not (subst (λ n. (id < n) × (n ≢ 0xffff)) (sym same) (found.2, found.3))
     here (inr empty) = not_in_empty found.0 empty
 
     go : Contains locks found.0 ⊎ Contains (lock ∷ []) found.0 → ⊥

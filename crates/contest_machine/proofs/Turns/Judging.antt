@@ -1,18 +1,6 @@
 -- A walker frees what it keeps, or is lost, once it has read a greater lock, and not before.
-use Rattle.std.proofs.Common.{◌≡◌, ◌≢◌, ℕ, ◌+◌, ◌*◌, ◌/◌, ◌%◌, ◌<◌, ◌↔◌, true, List, [], ◌∷◌, ◌++◌, ◌⊎◌, subst, sym, refl, ap, ◌∙◌, if◌then◌else◌}
-use Rattle.fabric_map.specs.declared.map.Device.{Device}
-use Rattle.fabric_map.specs.Numbered.{paths_of}
-use Rattle.fabric_map.proofs.Lists.{not_in_empty}
-use Rattle.link_watch.specs.declared.side.Side.{Side}
-use Rattle.contest_machine.specs.declared.stages.PendingWrite.{PendingWrite}
+use Rattle.contest_machine.proofs.Prelude.{◌≡◌, ◌≢◌, ℕ, ◌↔◌, true, List, [], ◌∷◌, ◌++◌, subst, sym, refl, ap, ◌∙◌, Device, paths_of, not_in_empty, Side, PendingWrite, Stage, Ask, Claim, Check, Test, Features, Information, Status, Free, Done, Lost, Walker, fresh, kept, waits_or_goes, ends, came_at, came_of, Both, after_turns, IsNew, walker_of, locks_over, HasGreater, IsLostWalker, LostHostsMetAGreater, LostIsForAGreater}
 use Rattle.contest_machine.specs.declared.stages.Turn.TheVariants as Turns
-use Rattle.contest_machine.specs.declared.stages.Stage.{Stage}
-use Rattle.contest_machine.specs.declared.stages.Stage.TheVariants.{Ask, Claim, Check, Test, Features, Information, Status, Free, Done, Lost}
-use Rattle.contest_machine.specs.Machine.{Walker, fresh, kept, judged}
-use Rattle.contest_machine.specs.Turns.{waits_or_goes, ends, came_at, came_of, Both, after_turns}
-use Rattle.contest_machine.specs.Keeping.{IsNew}
-use Rattle.contest_machine.specs.Locks.{walker_of, locks_over}
-use Rattle.contest_machine.specs.Waiting.{HasGreater, IsLostWalker, LostHostsMetAGreater, LostIsForAGreater}
 use Rattle.contest_machine.proofs.Turns.Steps.{turns_with, after_one_more}
 use Rattle.contest_machine.proofs.Turns.Judged.{IsJudgedAt, IsJudged, step_judged}
 
@@ -26,19 +14,13 @@ lost_stage w after Ask is = absurd (waiting w.todo after.todo is)
     waiting [] [] e = cc
     waiting (p ∷ rest) left e = cc
     waiting [] (p ∷ rest) e = cc
-lost_stage w after Claim is = absurd (cc)
-lost_stage w after Check is = absurd (cc)
-lost_stage w after Test is = absurd (cc)
-lost_stage w after Features is = absurd (cc)
-lost_stage w after Information is = absurd (cc)
-lost_stage w after Status is = absurd (cc)
-lost_stage w after Free is = absurd (cc)
 lost_stage w after Done is = absurd (done after.todo is)
   where
     done : (left : List PendingWrite) → ends left Turns.Done ≢ Turns.Lost
     done [] e = cc
     done (p ∷ rest) e = cc
 lost_stage w after Lost is = refl
+lost_stage w after _ is = absurd (cc)
 
 module _ (id : ℕ) (locks : List ℕ) (w after : Walker) where
   no_device : (devices : List Device) → devices ≢ [] → paths_of devices ++ [] ≢ []
@@ -84,7 +66,7 @@ module _ (id : ℕ) (locks : List ℕ) (w after : Walker) where
 
 -- ---- over all turns
 
-new_judged : (w : Walker) → IsNew w → IsJudged w.id [] w
+pub new_judged : (w : Walker) → IsNew w → IsJudged w.id [] w
 new_judged w new = (
   refl,
   subst (IsJudgedAt w.id [] w) (sym new.stage) (λ found. not_in_empty found.0 found.1),
@@ -146,8 +128,7 @@ module _ (id : ℕ) (locks : List ℕ) (w : Walker) (judged : IsJudged id locks 
   gave_up Features none some nothing = absurd (none some)
   gave_up Information none some nothing = absurd (none some)
   gave_up Status none some nothing = absurd (none some)
-  gave_up Free holds some nothing =
-      absurd (no_device id locks w w w.devices holds.1 nothing)
+  gave_up Free holds some nothing = absurd (no_device id locks w w w.devices holds.1 nothing)
   gave_up Done none some nothing = absurd (none some)
   gave_up Lost holds some nothing = refl
 

@@ -1,23 +1,6 @@
 -- What a walker asks is asked of a device: the paths that it tries lead to devices, those of the
 -- switches whose ports it tries to switches.
-use Rattle.std.proofs.Common.{◌≡◌, ◌≢◌, ℕ, ◌+◌, ◌*◌, ◌/◌, ◌%◌, nat_lt, Bool, true, false, eqb, List, [], ◌∷◌, ◌++◌, length, Option, Some, None, IsSome, subst, sym, refl, if◌then◌else◌}
-use Rattle.std.proofs.lemmas.Bool.{eqb-true}
-use Rattle.fabric_script.specs.declared.ports.PortRef.{PortRef}
-use Rattle.fabric_map.specs.declared.map.Kind.TheVariants.{Endpoint}
-use Rattle.fabric_map.specs.declared.map.Device.{Device}
-use Rattle.fabric_map.specs.Topology.{Topology, IsTopology, entered}
-use Rattle.fabric_map.specs.Routes.{AllRegisters}
-use Rattle.fabric_map.specs.Fitting.{Fits}
-use Rattle.host_enumerate.specs.declared.maint.Access.TheVariants.{Read, Write}
-use Rattle.host_enumerate.specs.Accesses.{answered}
-use Rattle.host_enumerate.specs.Underway.{id_after, met_as}
-use Rattle.contest_machine.specs.declared.stages.Asked.{Asked}
-use Rattle.contest_machine.specs.declared.stages.PendingWrite.{PendingWrite}
-use Rattle.contest_machine.specs.declared.stages.Tried.{Tried}
-use Rattle.contest_machine.specs.declared.stages.Stage.{Stage}
-use Rattle.contest_machine.specs.declared.stages.Stage.TheVariants.{Ask, Claim, Check, Test, Features, Information, Status, Free, Done, Lost}
-use Rattle.contest_machine.specs.Machine.{Walker, asked, write, routes_to, own_id, last_path, but_last, freeing, port_after, gone_on, taken, judged, numbered, outward, settled, walker_told, reached, stepped}
-use Rattle.contest_machine.specs.Keeping.{IsNew}
+use Rattle.contest_machine.proofs.Prelude.{◌≡◌, ◌≢◌, ℕ, ◌+◌, ◌*◌, ◌/◌, ◌%◌, nat_lt, Bool, true, false, eqb, List, [], ◌∷◌, ◌++◌, length, Option, Some, None, IsSome, subst, sym, refl, if◌then◌else◌, eqb-true, PortRef, Endpoint, Device, Topology, IsTopology, entered, AllRegisters, Fits, Read, Write, answered, id_after, met_as, Asked, PendingWrite, Tried, Stage, Ask, Claim, Check, Test, Features, Information, Status, Free, Done, Lost, Walker, asked, write, routes_to, own_id, last_path, but_last, freeing, port_after, gone_on, taken, judged, numbered, outward, settled, walker_told, reached, stepped, IsNew}
 use Rattle.contest_machine.proofs.Keeping.Stepped.{some_left}
 use Rattle.contest_machine.proofs.Turns.Lasting.{AreSameDevices}
 use Rattle.contest_machine.proofs.Turns.Telling.{IsAtSwitch, is_at_switch, is_linked, leads_on, host_leads_on}
@@ -271,12 +254,4 @@ new_led w new = (
 pub begun_led : (w : Walker) (stage : Stage) → IsLedAt w stage
     → IsLedAt (record w { begun = true }) stage
 begun_led w Ask led = led
-begun_led w Claim led = led
-begun_led w Check led = led
-begun_led w Test led = led
-begun_led w Features led = led
-begun_led w Information led = led
-begun_led w Status led = led
-begun_led w Free led = led
-begun_led w Done led = led
-begun_led w Lost led = led
+begun_led w _ led = led

@@ -1,23 +1,6 @@
 -- Once the other host is lost, each lock is free or the walker's own.
-use Rattle.std.proofs.Common.{◌≡◌, ◌≢◌, ℕ, Bool, true, false, List, [], ◌++◌, Option, Some, None, Contains, arith, ◌⊎◌, inl, inr, subst, sym, refl, ap, ◌∙◌, if◌then◌else◌}
-use Rattle.std.proofs.lemmas.List.Elements.{Contains-append_cases}
-use Rattle.fabric_script.specs.declared.ports.PortRef.{PortRef}
-use Rattle.fabric_map.specs.Topology.{entered}
-use Rattle.fabric_map.specs.Routes.{AllRegisters}
-use Rattle.fabric_map.specs.Numbered.{paths_of}
-use Rattle.fabric_map.proofs.Lists.{Contains-cases, not_in_empty}
-use Rattle.link_watch.specs.Sides.{other_side}
-use Rattle.link_watch.specs.declared.side.Side.{Side}
-use Rattle.link_watch.specs.declared.side.Side.TheVariants.{A, B}
-use Rattle.contest_machine.specs.declared.stages.Asked.{Asked}
-use Rattle.contest_machine.specs.declared.stages.Stage.TheVariants.{Check, Lost}
-use Rattle.contest_machine.specs.Machine.{Walker, State, kept, fresh, wants, stepped}
-use Rattle.contest_machine.specs.Turns.{is_locking, locked_on, Both, turn_of}
-use Rattle.contest_machine.specs.Contest.{Keeps, IsLockOfNone}
+use Rattle.contest_machine.proofs.Prelude.{◌≡◌, ◌≢◌, ℕ, Bool, true, false, List, [], ◌++◌, Option, Some, None, Contains, arith, ◌⊎◌, inl, inr, subst, sym, refl, ap, ◌∙◌, if◌then◌else◌, Contains-append_cases, PortRef, entered, AllRegisters, paths_of, Contains-cases, not_in_empty, other_side, Side, A, B, Asked, Check, Lost, Walker, State, kept, fresh, wants, stepped, is_locking, locked_on, Both, turn_of, Keeps, IsLockOfNone, walker_of, reads_lock, lock_at, lock_told_to, lock_next, lock_next_on, state_of, locks_at_first, locks_in, locks_in_turn, HasLesser, IsUnlocked}
 use Rattle.contest_machine.proofs.Keeping.Frame.{keeps_or_not}
-use Rattle.contest_machine.specs.Locks.{walker_of, reads_lock, lock_at, lock_told_to, lock_next, lock_next_on, state_of, locks_at_first, locks_in, locks_in_turn}
-use Rattle.contest_machine.specs.Waiting.{HasLesser}
-use Rattle.contest_machine.specs.Going.{IsUnlocked}
 use Rattle.contest_machine.proofs.Turns.Lasting.{step_lasts}
 use Rattle.contest_machine.proofs.Turns.Led.{IsLedAt}
 use Rattle.contest_machine.proofs.Turns.Fair.{AreFair, step_fair, begun_fair}
@@ -34,8 +17,7 @@ none_own id lock found = absurd (not_in_empty lock found)
 
 own_append : (id : ℕ) (first second : List ℕ) → AreOwn id first → AreOwn id second
     → AreOwn id (first ++ second)
-own_append id first second own also lock found =
-    go (Contains-append_cases first second lock found)
+own_append id first second own also lock found = go (Contains-append_cases first second lock found)
   where
     go : Contains first lock ⊎ Contains second lock → (lock ≡ 0xffff) ⊎ (lock ≡ id)
     go (inl here) = own lock here
@@ -90,8 +72,7 @@ module _ (before : AllRegisters) (o : Walker) (lost : o.stage ≡ Lost)
 
           here : ((state.registers port.node).lock ≡ lock) ⊎ Contains [] lock
               → (lock ≡ 0xffff) ⊎ (lock ≡ id)
-          here (inl same) =
-              own (free_or_own state.walker state.registers alone.0 port.node) same
+          here (inl same) = own (free_or_own state.walker state.registers alone.0 port.node) same
           here (inr empty) = absurd (not_in_empty lock empty)
 
       reads : (b : Bool) (p : Option PortRef)

@@ -1,23 +1,11 @@
 -- Two hosts that are linked to each other begin, and one is left alone.
-use Rattle.std.proofs.Common.{◌≡◌, ◌≢◌, ℕ, zero, suc, ◌/◌, ◌%◌, ◌^◌, ◌<◌, ◌≤◌, is_some, Bool, true, false, List, [], ◌∷◌, ◌⊎◌, None, Some, IsSome, inl, inr, arith, refl, sym, ap, subst, ◌∙◌, if◌then◌else◌}
-use Rattle.fabric_script.specs.declared.ports.PortRef.{PortRef}
+use Rattle.contest_machine.proofs.Prelude.{◌≡◌, ℕ, zero, suc, ◌/◌, ◌%◌, ◌^◌, ◌<◌, ◌≤◌, is_some, Bool, true, false, List, [], ◌∷◌, ◌⊎◌, None, Some, IsSome, inl, inr, arith, refl, sym, ap, subst, ◌∙◌, if◌then◌else◌, PortRef, same_Some, port_at, Registers, IsDevice, new_endpoint, is_switch, Topology, IsTopology, IsPortIn, device_ports, Fits, Side, A, B, IsNew, walker_of, AreBegun, IsUnlocked, IsLeftAlone, beginner, two_hosts, five_each}
 use Rattle.fabric_script.specs.Peers.{peer_in}
 use Rattle.fabric_script.specs.Known.{same_port}
 use Rattle.fabric_script.proofs.PeerLaws.{port_is}
-use Rattle.std.proofs.lemmas.Option.{same_Some}
 use Rattle.maint_registers.proofs.WithinLaws.{new_endpoint_within}
-use Rattle.fabric_script.specs.Ports.{port_at}
-use Rattle.maint_registers.specs.Devices.{Registers, IsDevice, new_endpoint, is_switch}
-use Rattle.fabric_map.specs.Topology.{Topology, IsTopology, IsPortIn, device_ports}
-use Rattle.fabric_map.specs.Fitting.{Fits}
 use Rattle.fabric_map.specs.Plain.{topology_of, registers_of}
 use Rattle.host_enumerate.specs.Examples.{pair_links}
-use Rattle.link_watch.specs.declared.side.Side.{Side}
-use Rattle.link_watch.specs.declared.side.Side.TheVariants.{A, B}
-use Rattle.contest_machine.specs.Keeping.{IsNew}
-use Rattle.contest_machine.specs.Locks.{walker_of}
-use Rattle.contest_machine.specs.Going.{AreBegun, IsUnlocked, IsLeftAlone}
-use Rattle.contest_machine.specs.Examples.{beginner, two_hosts, five_each}
 
 abbrev devices : List Registers
 devices = new_endpoint 5 true ∷ new_endpoint 7 true ∷ []
@@ -35,8 +23,7 @@ only P first (suc port) inside = absurd (omega (arith, inside))
 
 -- the two ends of the link
 abbrev AreItsEnds : PortRef → PortRef → Type 0
-AreItsEnds p q =
-    ((port_at 0 0 ≡ p) × (port_at 1 0 ≡ q)) ⊎ ((port_at 1 0 ≡ p) × (port_at 0 0 ≡ q))
+AreItsEnds p q = ((port_at 0 0 ≡ p) × (port_at 1 0 ≡ q)) ⊎ ((port_at 1 0 ≡ p) × (port_at 0 0 ≡ q))
 
 its_ends : (p q : PortRef) → peer_in pair_links p ≡ Some q → AreItsEnds p q
 its_ends p q linked = go (same_port (port_at 0 0) p) (same_port (port_at 1 0) p) refl refl linked
@@ -44,8 +31,7 @@ its_ends p q linked = go (same_port (port_at 0 0) p) (same_port (port_at 1 0) p)
     go : (a b : Bool) → same_port (port_at 0 0) p ≡ a → same_port (port_at 1 0) p ≡ b
         → (if a then Some (port_at 1 0) else (if b then Some (port_at 0 0) else None)) ≡ Some q
         → AreItsEnds p q
-    go true b first second at =
-        inl (port_is (port_at 0 0) p first, same_Some (port_at 1 0) q at)
+    go true b first second at = inl (port_is (port_at 0 0) p first, same_Some (port_at 1 0) q at)
     go false true first second at =
         inr (port_is (port_at 1 0) p second, same_Some (port_at 0 0) q at)
     go false false first second at = absurd (cc)
@@ -66,13 +52,12 @@ module _ (host : ℕ) (is_host : host < 2) where
   abbrev view : Topology
   view = topology_of devices pair_links host
 
-  pair_proper : IsTopology view
+  pub pair_proper : IsTopology view
   pair_proper = record {
     most = omega arith;
     host = is_host;
     host_is_endpoint = both (λ h. view.switch_ports h ≡ None) refl refl host is_host;
-    host_is_linked =
-        both (λ h. IsSome (peer_in pair_links (port_at h 0))) refl refl host is_host;
+    host_is_linked = both (λ h. IsSome (peer_in pair_links (port_at h 0))) refl refl host is_host;
     most_ports = most;
     ports = λ p q linked. port p q (its_ends p q linked);
     both_ways = λ p q linked. back p q (its_ends p q linked);
@@ -107,7 +92,7 @@ module _ (host : ℕ) (is_host : host < 2) where
       (registers_of devices node).linked / 2 ^ port % 2
       ≡ (if is_some (peer_in pair_links (port_at node port)) then 1 else 0)
 
-  pair_shown : Fits view (registers_of devices)
+  pub pair_shown : Fits view (registers_of devices)
   pair_shown = record {
     devices = both (λ node. IsDevice (registers_of devices node))
         (endpoint_is_device 5 (omega arith)) (endpoint_is_device 7 (omega arith));

@@ -1,33 +1,5 @@
 -- Every access that goes on leaves its walker fewer turns.
-use Rattle.std.proofs.Common.{◌≡◌, ◌≢◌, ℕ, ◌+◌, ◌*◌, ◌/◌, ◌%◌, ◌≤◌, ◌<◌, true, List, [], ◌∷◌, ◌++◌, length, Option, Some, None, IsSome, option_map, Contains, arith, subst, sym, refl, ap, ◌∙◌, append-nil, unwrap_or}
-use Rattle.std.proofs.lemmas.List.Elements.{Contains-append_left, Contains-append_right}
-use Rattle.fabric_script.specs.declared.ports.PortRef.{PortRef}
-use Rattle.maint_registers.specs.Devices.{is_switch}
-use Rattle.maint_registers.proofs.AccessLaws.{port_information-read}
-use Rattle.maint_registers.proofs.SameLaws.{same_kind}
-use Rattle.fabric_map.specs.declared.map.Kind.TheVariants.{Endpoint}
-use Rattle.fabric_map.specs.declared.map.Device.{Device}
-use Rattle.fabric_map.specs.Topology.{Topology, IsTopology, device_ports, entered, node_at}
-use Rattle.fabric_map.specs.Routes.{AllRegisters}
-use Rattle.fabric_map.specs.Fitting.{Fits}
-use Rattle.fabric_map.specs.Numbered.{paths_of}
-use Rattle.fabric_map.proofs.Few.{entered-inside, entered-port}
-use Rattle.fabric_map.proofs.Growing.{node_at-entered}
-use Rattle.fabric_map.proofs.Leading.{some_from_same}
-use Rattle.fabric_map.proofs.Lists.{Contains-first}
-use Rattle.host_enumerate.specs.declared.maint.Access.TheVariants.{Read, Write}
-use Rattle.host_enumerate.specs.Accesses.{answered, after_access}
-use Rattle.host_enumerate.specs.Underway.{met_as}
-use Rattle.contest_machine.specs.declared.stages.Asked.{Asked}
-use Rattle.contest_machine.specs.declared.stages.PendingWrite.{PendingWrite}
-use Rattle.contest_machine.specs.declared.stages.Tried.{Tried}
-use Rattle.contest_machine.specs.declared.stages.Stage.{Stage}
-use Rattle.contest_machine.specs.declared.stages.Stage.TheVariants.{Ask, Claim, Check, Test, Features, Information, Status, Free, Done, Lost}
-use Rattle.contest_machine.specs.Machine.{Walker, asked, kept, last_path, but_last, numbered, settled, walker_told, told_at, reached, stepped}
-use Rattle.contest_machine.specs.Contest.{AreOnce, IsMine}
-use Rattle.contest_machine.specs.Turns.{came_of}
-use Rattle.contest_machine.specs.Going.{going_one}
-use Rattle.contest_machine.specs.Within.{WalkerIsWithin}
+use Rattle.contest_machine.proofs.Prelude.{◌≡◌, ◌≢◌, ℕ, ◌+◌, ◌*◌, ◌/◌, ◌%◌, ◌≤◌, ◌<◌, true, List, [], ◌∷◌, ◌++◌, length, Option, Some, None, IsSome, option_map, Contains, arith, subst, sym, refl, ap, ◌∙◌, append-nil, unwrap_or, Contains-append_left, Contains-append_right, PortRef, is_switch, port_information-read, same_kind, Endpoint, Device, Topology, IsTopology, device_ports, entered, node_at, AllRegisters, Fits, paths_of, entered-inside, entered-port, node_at-entered, some_from_same, Contains-first, Read, Write, answered, after_access, met_as, Asked, PendingWrite, Tried, Stage, Ask, Claim, Check, Test, Features, Information, Status, Free, Done, Lost, Walker, asked, kept, last_path, but_last, numbered, settled, walker_told, told_at, reached, stepped, AreOnce, IsMine, came_of, going_one, WalkerIsWithin}
 use Rattle.contest_machine.proofs.Keeping.Few.{once_few}
 use Rattle.contest_machine.proofs.Keeping.Between.{with_fresh}
 use Rattle.contest_machine.proofs.Keeping.Lists.{once-push, split_last}
@@ -325,8 +297,7 @@ settled_spends w old new p rest stage path within mine led = go rest stage path 
 pub step_spends : (w : Walker) (before old : AllRegisters) → w.id < 0xff → Fits w.view before
     → AreSameDevices before old → IsMine w old → WalkerIsWithin w → IsLed w
     → Spends w old (stepped w old).walker (stepped w old).registers
-step_spends w before old fits shown same mine within led =
-    go w.todo w.stage w.path mine within led
+step_spends w before old fits shown same mine within led = go w.todo w.stage w.path mine within led
   where
     go : (todo : List PendingWrite) (stage : Stage) (path : List ℕ)
         → IsMine (record w { todo = todo; stage = stage; path = path }) old

@@ -1,32 +1,8 @@
 -- Each access that goes on leaves a walker fewer turns.
-use Rattle.std.proofs.Common.{◌≡◌, ◌≢◌, ℕ, ◌+◌, ◌*◌, ◌/◌, ◌%◌, ◌≤◌, ◌<◌, ◌==◌, nat_lt, Bool, true, false, eqb, List, [], ◌∷◌, ◌++◌, length, Option, Some, arith, ◌⊎◌, inl, inr, subst, sym, refl, ap, ◌∙◌, if◌then◌else◌, length-append, eq-eqb, ne_eqb}
-use Rattle.std.proofs.lemmas.Bool.{cases_eq, eqb-true, eqb-false}
-use Rattle.std.proofs.lemmas.List.{length-map}
-use Rattle.fabric_script.specs.declared.ports.PortRef.{PortRef}
-use Rattle.maint_registers.specs.Devices.{Registers, is_switch}
-use Rattle.maint_registers.specs.Access.{locked}
-use Rattle.fabric_map.specs.declared.map.Kind.TheVariants.{Endpoint, Switch}
-use Rattle.fabric_map.specs.declared.map.Device.{Device}
-use Rattle.fabric_map.specs.Topology.{entered, node_at}
-use Rattle.fabric_map.specs.Routes.{AllRegisters}
-use Rattle.fabric_map.specs.Fitting.{Fits}
-use Rattle.fabric_map.specs.Numbered.{paths_of}
-use Rattle.host_enumerate.specs.declared.maint.Access.TheVariants.{Read, Write}
-use Rattle.host_enumerate.specs.Accesses.{answered, after_access}
-use Rattle.host_enumerate.specs.Underway.{id_after, met_as}
-use Rattle.host_enumerate.proofs.Frames.{with_device-at}
-use Rattle.contest_machine.specs.declared.stages.Asked.{Asked}
-use Rattle.contest_machine.specs.declared.stages.Tried.{Tried}
-use Rattle.contest_machine.specs.declared.stages.Stage.{Stage}
-use Rattle.contest_machine.specs.declared.stages.Stage.TheVariants.{Ask, Claim, Check, Test, Features, Information, Status, Free}
-use Rattle.contest_machine.specs.Machine.{Walker, write, routes_to, kept, but_last, freeing, gone_on, taken, judged, numbered, switch_set_up, outward, walker_told, told_at}
-use Rattle.contest_machine.specs.Turns.{came_of}
-use Rattle.contest_machine.specs.Contest.{IsMine, HasClaimed}
-use Rattle.contest_machine.specs.Within.{WalkerIsWithin}
+use Rattle.contest_machine.proofs.Prelude.{◌≡◌, ◌≢◌, ℕ, ◌+◌, ◌*◌, ◌/◌, ◌%◌, ◌≤◌, ◌<◌, ◌==◌, nat_lt, Bool, true, false, eqb, List, [], ◌∷◌, ◌++◌, length, Option, Some, arith, ◌⊎◌, inl, inr, subst, sym, refl, ap, ◌∙◌, if◌then◌else◌, length-append, eq-eqb, ne_eqb, cases_eq, eqb-true, eqb-false, length-map, PortRef, Registers, locked, Endpoint, Switch, Device, entered, node_at, AllRegisters, Fits, paths_of, Read, Write, answered, after_access, id_after, met_as, with_device-at, Asked, Tried, Stage, Ask, Claim, Check, Test, Features, Information, Status, Free, Walker, write, routes_to, kept, but_last, freeing, gone_on, taken, judged, numbered, switch_set_up, outward, walker_told, told_at, came_of, IsMine, HasClaimed, WalkerIsWithin, going_one}
 use Rattle.contest_machine.proofs.Keeping.Few.{once_few}
 use Rattle.contest_machine.proofs.Keeping.Reading.{read-same, lock_left, locked-free, locked-other}
 use Rattle.contest_machine.proofs.Keeping.Stepped.{one_node}
-use Rattle.contest_machine.specs.Going.{going_one}
 use Rattle.contest_machine.proofs.Turns.Steps.{gone_by}
 use Rattle.contest_machine.proofs.Turns.Lasting.{AreSameDevices}
 use Rattle.contest_machine.proofs.Turns.Costing.{room, lock_is, if_failed, turns_left, if_won, claims_left, going_most, routes_most, home_most, own_most, fewer, gone_left, gone_claims, freeing_left, freeing_claims, room_less}
@@ -147,8 +123,7 @@ module _ (w : Walker) (before old : AllRegisters) (fits : w.id < 0xff) (shown : 
       go false false = fits
 
   gone_id : (w0 : Walker) (tried : List Tried) → w0.id < 0xff → (gone_on w0 tried).id < 0xff
-  gone_id w0 tried small =
-      gone_by (λ a. a.id < 0xff) w0 tried (λ t some. small) small
+  gone_id w0 tried small = gone_by (λ a. a.id < 0xff) w0 tried (λ t some. small) small
 
   abbrev Spent : Stage → PortRef → Asked → Type 0
   Spent stage at ask = Spends (between stage) old

@@ -1,13 +1,5 @@
 -- What no turn changes of a walker.
-use Rattle.std.proofs.Common.{◌≡◌, ℕ, List, [], ◌∷◌, refl, ◌∙◌}
-use Rattle.fabric_map.specs.Topology.{Topology}
-use Rattle.fabric_map.specs.Routes.{AllRegisters}
-use Rattle.link_watch.specs.declared.side.Side.{Side}
-use Rattle.link_watch.specs.declared.side.Side.TheVariants.{A, B}
-use Rattle.contest_machine.specs.Machine.{Walker, State, stepped}
-use Rattle.contest_machine.specs.Turns.{walker_turned, Both, turn_of, after_turns}
-use Rattle.contest_machine.specs.Keeping.{WalkersStay}
-use Rattle.contest_machine.specs.Locks.{walker_of, state_of}
+use Rattle.contest_machine.proofs.Prelude.{◌≡◌, ℕ, List, [], ◌∷◌, refl, ◌∙◌, Topology, AllRegisters, Side, A, B, Walker, State, stepped, walker_turned, Both, turn_of, after_turns, WalkersStay, walker_of, state_of}
 use Rattle.contest_machine.proofs.Keeping.Apart.{turned_by}
 use Rattle.contest_machine.proofs.Turns.Lasting.{step_lasts}
 

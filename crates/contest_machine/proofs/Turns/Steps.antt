@@ -1,15 +1,5 @@
 -- What holds after each access holds after each turn, and after a port was tried.
-use Rattle.std.proofs.Common.{◌≡◌, ◌≢◌, ℕ, ◌+◌, ◌*◌, Bool, true, false, nat_lt, List, [], ◌∷◌, ◌++◌, append-nil, arith, subst, sym, refl, ap, ◌∙◌, if◌then◌else◌, ne_eqb}
-use Rattle.std.proofs.lemmas.List.{append_assoc}
-use Rattle.fabric_map.specs.Topology.{entered}
-use Rattle.fabric_map.specs.Routes.{AllRegisters}
-use Rattle.link_watch.specs.declared.side.Side.{Side}
-use Rattle.link_watch.specs.declared.side.Side.TheVariants.{A, B}
-use Rattle.contest_machine.specs.declared.stages.Tried.{Tried}
-use Rattle.contest_machine.specs.declared.stages.Stage.TheVariants.{Status, Done}
-use Rattle.contest_machine.specs.Machine.{Walker, State, port_after, gone_on, stepped}
-use Rattle.contest_machine.specs.Turns.{is_locking, locked_on, walker_turned, Both, turn_of, after_turns}
-use Rattle.contest_machine.specs.Locks.{walker_of, lock_at, lock_next, lock_next_on, state_of, locks_at_first, locks_in, locks_in_turn, locks_over}
+use Rattle.contest_machine.proofs.Prelude.{◌≡◌, ◌≢◌, ℕ, ◌+◌, ◌*◌, Bool, true, false, nat_lt, List, [], ◌∷◌, ◌++◌, append-nil, arith, subst, sym, refl, ap, ◌∙◌, if◌then◌else◌, ne_eqb, append_assoc, entered, AllRegisters, Side, A, B, Tried, Status, Done, Walker, State, port_after, gone_on, stepped, is_locking, locked_on, walker_turned, Both, turn_of, after_turns, walker_of, lock_at, lock_next, lock_next_on, state_of, locks_at_first, locks_in, locks_in_turn, locks_over}
 
 -- The walker after a port was tried has another stage, and else is the same.
 pub gone_by : (P : Walker → Type 0) (w : Walker) (tried : List Tried)

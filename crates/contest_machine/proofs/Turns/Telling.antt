@@ -1,22 +1,5 @@
 -- What registers tell a walker of the devices and links of its view.
-use Rattle.std.proofs.Common.{◌≡◌, ◌≢◌, ℕ, ◌+◌, ◌*◌, ◌/◌, ◌%◌, ◌^◌, ◌<◌, ◌≤◌, ◌==◌, nat_lt, Bool, true, false, List, [], ◌∷◌, Option, Some, None, IsSome, is_some, unwrap_or, arith, ◌⊎◌, inl, inr, subst, sym, refl, ap, ◌∙◌, if◌then◌else◌, ne_eqb}
-use Rattle.std.specs.Option.{option_and_then}
-use Rattle.std.proofs.lemmas.Bool.{cases_lt, lt-ltb}
-use Rattle.fabric_script.specs.declared.ports.PortRef.{PortRef}
-use Rattle.fabric_script.specs.Ports.{port_at}
-use Rattle.maint_registers.specs.Devices.{Registers, is_switch}
-use Rattle.maint_registers.specs.Table.{status_offset}
-use Rattle.maint_registers.specs.Access.{value_at}
-use Rattle.maint_registers.proofs.AccessLaws.{features-read, status-read, status-none}
-use Rattle.maint_registers.proofs.SameLaws.{same_kind}
-use Rattle.fabric_map.specs.Topology.{Topology, IsTopology, ports_followed, behind_port, entered}
-use Rattle.fabric_map.specs.Walked.{onward}
-use Rattle.fabric_map.specs.Routes.{AllRegisters}
-use Rattle.fabric_map.specs.Fitting.{Fits}
-use Rattle.fabric_map.proofs.Few.{entered-inside}
-use Rattle.fabric_map.proofs.Leading.{followed-host, along-onward}
-use Rattle.host_enumerate.specs.declared.maint.Access.TheVariants.{Read}
-use Rattle.host_enumerate.specs.Accesses.{answered}
+use Rattle.contest_machine.proofs.Prelude.{◌≡◌, ◌≢◌, ℕ, ◌+◌, ◌*◌, ◌/◌, ◌%◌, ◌^◌, ◌<◌, ◌≤◌, ◌==◌, nat_lt, Bool, true, false, List, [], ◌∷◌, Option, Some, None, IsSome, is_some, unwrap_or, arith, ◌⊎◌, inl, inr, subst, sym, refl, ap, ◌∙◌, if◌then◌else◌, ne_eqb, option_and_then, cases_lt, lt-ltb, PortRef, port_at, Registers, is_switch, features-read, status-read, status-none, same_kind, Topology, IsTopology, ports_followed, behind_port, entered, onward, AllRegisters, Fits, entered-inside, followed-host, along-onward, Read, answered}
 use Rattle.contest_machine.proofs.Turns.Lasting.{AreSameDevices}
 
 -- the path leads to a switch
@@ -28,14 +11,12 @@ IsAtSwitch view path = (at : PortRef) × (ports : ℕ) × (entered view path ≡
 pub features_told : (device : Registers) (port : ℕ)
     → (answered device port (Read 0x10)).answer.value
     ≡ (if is_switch device then 0x10000118 else 0x18)
-features_told device port =
-    ap (λ o. unwrap_or o 0) (features-read device port)
+features_told device port = ap (λ o. unwrap_or o 0) (features-read device port)
 
 switch_told : (device : Registers) (port : ℕ)
     → (answered device port (Read 0x10)).answer.value / 0x10000000 % 2 ≡ 1
     → is_switch device ≡ true
-switch_told device port bit =
-    go (is_switch device) refl (sym (features_told device port))
+switch_told device port bit = go (is_switch device) refl (sym (features_told device port))
   where
     go : (b : Bool) → is_switch device ≡ b
         → (if is_switch device then 0x10000118 else 0x18)

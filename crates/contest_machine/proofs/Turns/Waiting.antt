@@ -1,27 +1,7 @@
 -- An access waits exactly where it read the lock of a host with a lesser ID.
-use Rattle.std.proofs.Common.{◌≡◌, ◌≢◌, ℕ, ◌+◌, ◌*◌, ◌/◌, ◌%◌, ◌<◌, ◌↔◌, nat_lt, Bool, true, false, eqb, List, [], ◌∷◌, ◌++◌, Option, Some, None, IsSome, Contains, arith, ◌⊎◌, inl, inr, subst, sym, refl, if◌then◌else◌}
-use Rattle.std.proofs.lemmas.Bool.{eqb-true, eqb-false, ltb-true, ltb-false}
-use Rattle.fabric_script.specs.declared.ports.PortRef.{PortRef}
-use Rattle.fabric_map.specs.declared.map.Kind.TheVariants.{Endpoint}
-use Rattle.fabric_map.specs.declared.map.Device.{Device}
-use Rattle.fabric_map.specs.Topology.{entered}
-use Rattle.fabric_map.specs.Routes.{AllRegisters}
-use Rattle.fabric_map.proofs.Lists.{Contains-first, Contains-cases, not_in_empty}
-use Rattle.host_enumerate.specs.declared.maint.Access.TheVariants.{Read, Write}
-use Rattle.host_enumerate.specs.Accesses.{answered}
-use Rattle.host_enumerate.specs.Underway.{id_after, met_as}
-use Rattle.contest_machine.specs.declared.stages.Asked.{Asked}
-use Rattle.contest_machine.specs.declared.stages.PendingWrite.{PendingWrite}
-use Rattle.contest_machine.specs.declared.stages.Tried.{Tried}
-use Rattle.contest_machine.specs.declared.stages.Turn.{Turn}
+use Rattle.contest_machine.proofs.Prelude.{◌≡◌, ◌≢◌, ℕ, ◌+◌, ◌*◌, ◌/◌, ◌%◌, ◌<◌, ◌↔◌, nat_lt, Bool, true, false, eqb, List, [], ◌∷◌, ◌++◌, Option, Some, None, IsSome, Contains, arith, ◌⊎◌, inl, inr, subst, sym, refl, if◌then◌else◌, eqb-true, eqb-false, ltb-true, ltb-false, PortRef, Endpoint, Device, entered, AllRegisters, Contains-first, Contains-cases, not_in_empty, Read, Write, answered, id_after, met_as, Asked, PendingWrite, Tried, Turn, Stage, Ask, Claim, Check, Test, Features, Information, Status, Free, Done, Lost, Walker, asked, write, routes_to, last_path, but_last, freeing, gone_on, taken, judged, numbered, outward, told_at, told_with, reached, stepped, waits_or_goes, ends, came_at, came_of, lock_at, lock_next, state_of, HasLesser}
 use Rattle.contest_machine.specs.declared.stages.Turn.TheVariants as Turns
-use Rattle.contest_machine.specs.declared.stages.Stage.{Stage}
-use Rattle.contest_machine.specs.declared.stages.Stage.TheVariants.{Ask, Claim, Check, Test, Features, Information, Status, Free, Done, Lost}
-use Rattle.contest_machine.specs.Machine.{Walker, asked, write, routes_to, last_path, but_last, freeing, gone_on, taken, judged, numbered, outward, told_at, told_with, reached, stepped}
-use Rattle.contest_machine.specs.Turns.{waits_or_goes, ends, came_at, came_of}
 use Rattle.contest_machine.proofs.Keeping.Reading.{lock_told}
-use Rattle.contest_machine.specs.Locks.{lock_at, lock_next, state_of}
-use Rattle.contest_machine.specs.Waiting.{HasLesser}
 use Rattle.contest_machine.proofs.Turns.Steps.{gone_by, status_reads_none}
 use Rattle.contest_machine.proofs.Turns.Led.{IsLed}
 
@@ -37,15 +17,9 @@ ends_no_wait (p ∷ rest) turn other = λ e. cc
 pub no_wait_at : (w after : Walker) (stage : Stage) → stage ≢ Ask
     → came_at w after stage ≢ Turns.Waiting
 no_wait_at w after Ask other = absurd (other refl)
-no_wait_at w after Claim other = λ e. cc
-no_wait_at w after Check other = λ e. cc
-no_wait_at w after Test other = λ e. cc
-no_wait_at w after Features other = λ e. cc
-no_wait_at w after Information other = λ e. cc
-no_wait_at w after Status other = λ e. cc
-no_wait_at w after Free other = λ e. cc
 no_wait_at w after Done other = ends_no_wait after.todo Turns.Done (λ e. cc)
 no_wait_at w after Lost other = ends_no_wait after.todo Turns.Lost (λ e. cc)
+no_wait_at w after _ other = λ e. cc
 
 -- a turn that writes does not wait
 writes_no_wait : (w after : Walker) (p : PendingWrite) (rest : List PendingWrite) (stage : Stage)
@@ -96,8 +70,7 @@ module _ (w : Walker) (fits : w.id < 0xff) where
 
   judged_waits : (stage : Stage) (lock : ℕ) → lock ≢ w.id
       → Waits w.id (between stage) (judged (between stage) lock) (lock ∷ [])
-  judged_waits stage lock other =
-      go (eqb lock 0xffff) refl (nat_lt w.id lock) refl
+  judged_waits stage lock other = go (eqb lock 0xffff) refl (nat_lt w.id lock) refl
     where
       go : (b : Bool) → eqb lock 0xffff ≡ b → (c : Bool) → nat_lt w.id lock ≡ c
           → Waits w.id (between stage) (if b then between Claim

@@ -1,24 +1,9 @@
 -- A turn waits exactly where it read the lock of a host with a lesser ID.
-use Rattle.std.proofs.Common.{◌≡◌, ◌≢◌, ℕ, ◌<◌, ◌↔◌, Bool, true, false, List, [], ◌∷◌, ◌++◌, append-nil, Contains, ◌⊎◌, inl, inr, subst, sym, refl, ap, ◌∙◌, if◌then◌else◌}
-use Rattle.std.proofs.lemmas.List.{append_assoc}
-use Rattle.std.proofs.lemmas.List.Elements.{Contains-append_right, Contains-append_cases}
-use Rattle.fabric_map.specs.Topology.{Topology, IsTopology}
-use Rattle.fabric_map.specs.Routes.{AllRegisters}
-use Rattle.fabric_map.specs.Fitting.{Fits}
-use Rattle.link_watch.specs.declared.side.Side.{Side}
-use Rattle.link_watch.specs.declared.side.Side.TheVariants.{A, B}
+use Rattle.contest_machine.proofs.Prelude.{◌≡◌, ◌≢◌, ℕ, ◌<◌, ◌↔◌, Bool, true, false, List, [], ◌∷◌, ◌++◌, append-nil, Contains, ◌⊎◌, inl, inr, subst, sym, refl, ap, ◌∙◌, if◌then◌else◌, append_assoc, Contains-append_right, Contains-append_cases, Topology, IsTopology, AllRegisters, Fits, Side, A, B, Stage, Ask, Claim, Check, Test, Features, Information, Status, Free, Done, Lost, Walker, State, stepped, waits_or_goes, came_at, came_of, is_locking, locked_on, walker_turned, Both, turn_of, after_turns, IsNew, walker_of, side_answer, lock_next, lock_next_on, state_of, locks_at_first, locks_in, locks_in_turn, HasLesser, WaitingIsForALesser, same_device}
 use Rattle.contest_machine.specs.declared.stages.Turn.TheVariants as Turns
-use Rattle.contest_machine.specs.declared.stages.Stage.{Stage}
-use Rattle.contest_machine.specs.declared.stages.Stage.TheVariants.{Ask, Claim, Check, Test, Features, Information, Status, Free, Done, Lost}
-use Rattle.contest_machine.specs.Machine.{Walker, State, stepped}
-use Rattle.contest_machine.specs.Turns.{waits_or_goes, came_at, came_of, is_locking, locked_on, walker_turned, Both, turn_of, after_turns}
-use Rattle.contest_machine.specs.Keeping.{IsNew}
 use Rattle.contest_machine.proofs.Keeping.Apart.{turned_by}
-use Rattle.contest_machine.specs.Locks.{walker_of, side_answer, lock_next, lock_next_on, state_of, locks_at_first, locks_in, locks_in_turn}
-use Rattle.contest_machine.specs.Waiting.{HasLesser, WaitingIsForALesser}
 use Rattle.contest_machine.proofs.Turns.Lasting.{AreSameDevices, step_lasts, step_same}
 use Rattle.contest_machine.proofs.Turns.Led.{IsLedAt, IsLed, step_led, new_led, begun_led}
-use Rattle.maint_registers.proofs.SameLaws.{same_device}
 use Rattle.contest_machine.proofs.Turns.Waiting.{Waits, no_wait_at, step_waits}
 
 -- ---- one turn
@@ -26,15 +11,7 @@ use Rattle.contest_machine.proofs.Turns.Waiting.{Waits, no_wait_at, step_waits}
 pub came_same : (w v after : Walker) (stage : Stage) → w.todo ≡ v.todo
     → came_at w after stage ≡ came_at v after stage
 came_same w v after Ask same = ap (λ t. waits_or_goes t after.todo) same
-came_same w v after Claim same = refl
-came_same w v after Check same = refl
-came_same w v after Test same = refl
-came_same w v after Features same = refl
-came_same w v after Information same = refl
-came_same w v after Status same = refl
-came_same w v after Free same = refl
-came_same w v after Done same = refl
-came_same w v after Lost same = refl
+came_same w v after _ same = refl
 
 -- what stands of a walker and the registers between two accesses
 pub record IsStanding (before : AllRegisters) (view : Topology) (id : ℕ)
@@ -243,10 +220,8 @@ module _ (before : AllRegisters) (view : Topology) (id : ℕ) (proper : IsTopolo
   pub turn_waits : (both : Both) (side : Side)
       → IsBetweenTurns (walker_of both side) both.registers
       → (side_answer both side ≡ Turns.Waiting) ↔ HasLesser id (locks_in_turn both side side)
-  turn_waits both A between =
-      turned_waits both.first both.registers between.clear between.stands
-  turn_waits both B between =
-      turned_waits both.second both.registers between.clear between.stands
+  turn_waits both A between = turned_waits both.first both.registers between.clear between.stands
+  turn_waits both B between = turned_waits both.second both.registers between.clear between.stands
 
 pub new_between : (before : AllRegisters) (view : Topology) (id : ℕ) (proper : IsTopology view)
     (shown : Fits view before) (fits : id < 0xff) (w : Walker) → w.view ≡ view → w.id ≡ id

@@ -1,6 +1,4 @@
-use Rattle.std.proofs.Common.{refl}
-use Rattle.host_enumerate.proofs.Askable.{opened-first}
-use Rattle.contest_machine.specs.Examples.{host_waiting, waiting_host}
+use Rattle.contest_machine.proofs.Prelude.{refl, opened-first, host_waiting, waiting_host}
 use Rattle.contest_machine.proofs.examples.a_lock_is_read.Goals as goal
 
 pub returns-clause-wanted : goal.returns-clause-wanted

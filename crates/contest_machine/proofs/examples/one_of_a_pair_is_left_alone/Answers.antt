@@ -1,5 +1,4 @@
 use Rattle.std.proofs.Common.{◌≡◌, refl, arith}
-use Rattle.contest_machine.specs.declared.stages.Stage.TheVariants as stages
 use Rattle.contest_machine.proofs.Turns.Pair.{pair_begun, left_alone}
 use Rattle.contest_machine.proofs.examples.one_of_a_pair_is_left_alone.Goals as goal
 

@@ -1,5 +1,4 @@
-use Rattle.std.proofs.Common.{◌≡◌, take, flat_map}
-use Rattle.fabric_map.specs.Numbered.{entries_at, given_ids}
+use Rattle.fabric_map.proofs.Prelude.{◌≡◌, take, flat_map, entries_at, given_ids}
 use Rattle.fabric_map.proofs.entries.entries_of.Given as goal
 
 abbrev pub invariant-loop-device : goal.invariant-loop-device

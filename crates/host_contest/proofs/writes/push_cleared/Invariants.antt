@@ -1,5 +1,4 @@
-use Rattle.std.proofs.Common.{◌≡◌, ◌++◌}
-use Rattle.contest_machine.specs.Machine.{cleared_below}
+use Rattle.host_contest.proofs.Prelude.{◌≡◌, ◌++◌, cleared_below}
 use Rattle.host_contest.proofs.writes.push_cleared.Given as goal
 
 abbrev pub invariant-loop-id : goal.invariant-loop-id

@@ -1,5 +1,4 @@
-use Rattle.std.proofs.Common.{◌++◌, ◌∷◌, [], ◌∙◌, ap}
-use Rattle.contest_machine.specs.Machine.{write, entry_set, cleared_below}
+use Rattle.host_contest.proofs.Prelude.{◌++◌, ◌∷◌, [], ◌∙◌, ap, write, entry_set, cleared_below}
 use Rattle.host_contest.proofs.Machines.{on_ok, home_joined}
 use Rattle.host_contest.proofs.writes.push_home.Goals as goal
 

@@ -1,5 +1,4 @@
-use Rattle.std.proofs.Common.{◌≡◌, ◌++◌, take, flat_map}
-use Rattle.contest_machine.specs.Machine.{route_pending}
+use Rattle.host_contest.proofs.Prelude.{◌≡◌, ◌++◌, take, flat_map, route_pending}
 use Rattle.host_contest.proofs.writes.push_routes.Given as goal
 
 abbrev pub invariant-loop-device : goal.invariant-loop-device

@@ -1,8 +1,4 @@
-use Rattle.std.proofs.Common.{◌≡◌, ◌-◌, length, Some, ap, sym, subst, ◌∙◌}
-use Rattle.std.proofs.lemmas.Result.{IfOk-weaker}
-use Rattle.fabric_script.specs.declared.ports.PortRef.{PortRef}
-use Rattle.fabric_map.specs.Topology.{entered}
-use Rattle.host_enumerate.specs.Accesses.{answered, after_access, IsAnswered}
+use Rattle.host_enumerate.proofs.Prelude.{◌≡◌, ◌-◌, length, Some, ap, sym, subst, ◌∙◌, IfOk-weaker, PortRef, entered, answered, after_access, IsAnswered}
 use Rattle.host_enumerate.proofs.Opening.{answerable, at_host, same_end}
 use Rattle.host_enumerate.proofs.asking.ask.Given as given
 use Rattle.host_enumerate.proofs.asking.ask.Goals as goal

@@ -1,6 +1,4 @@
-use Rattle.std.proofs.Common.{◌<◌, length, arith}
-use Rattle.maint_registers.specs.Changes.{defaulted}
-use Rattle.maint_registers.proofs.ChangeLaws.{changed_at}
+use Rattle.host_enumerate.proofs.Prelude.{◌<◌, length, arith, defaulted, changed_at}
 use Rattle.host_enumerate.proofs.devising.set_default.Goals as goal
 
 pub returns : goal.returns

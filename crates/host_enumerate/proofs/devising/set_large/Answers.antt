@@ -1,6 +1,4 @@
-use Rattle.std.proofs.Common.{◌<◌, length, arith}
-use Rattle.maint_registers.specs.Changes.{large_set}
-use Rattle.maint_registers.proofs.ChangeLaws.{changed_at}
+use Rattle.host_enumerate.proofs.Prelude.{◌<◌, length, arith, large_set, changed_at}
 use Rattle.host_enumerate.proofs.devising.set_large.Goals as goal
 
 pub returns : goal.returns

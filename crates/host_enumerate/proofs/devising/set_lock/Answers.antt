@@ -1,6 +1,4 @@
-use Rattle.std.proofs.Common.{◌<◌, length, arith}
-use Rattle.maint_registers.specs.Changes.{held_by}
-use Rattle.maint_registers.proofs.ChangeLaws.{changed_at}
+use Rattle.host_enumerate.proofs.Prelude.{◌<◌, length, arith, held_by, changed_at}
 use Rattle.host_enumerate.proofs.devising.set_lock.Goals as goal
 
 pub returns : goal.returns

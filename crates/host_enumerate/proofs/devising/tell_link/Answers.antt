@@ -1,6 +1,4 @@
-use Rattle.std.proofs.Common.{◌<◌, length, arith}
-use Rattle.maint_registers.specs.Changes.{linked_at}
-use Rattle.maint_registers.proofs.ChangeLaws.{changed_at}
+use Rattle.host_enumerate.proofs.Prelude.{◌<◌, length, arith, linked_at, changed_at}
 use Rattle.host_enumerate.proofs.devising.tell_link.Goals as goal
 
 pub returns : goal.returns

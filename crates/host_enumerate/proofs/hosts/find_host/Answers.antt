@@ -1,5 +1,4 @@
-use Rattle.std.proofs.Common.{[], length, arith, ap}
-use Rattle.fabric_script.specs.Known.{nothing}
+use Rattle.host_enumerate.proofs.Prelude.{[], length, arith, ap, nothing}
 use Rattle.host_enumerate.proofs.Devised.{stage_after_all, first_stage}
 use Rattle.host_enumerate.proofs.hosts.find_host.Goals as goal
 

@@ -1,7 +1,4 @@
-use Rattle.std.proofs.Common.{take}
-use Rattle.std.specs.List.{flat_map}
-use Rattle.rio_chars.specs.Written.{Writes}
-use Rattle.host_enumerate.specs.MapTexts.{device_text}
+use Rattle.host_enumerate.proofs.Prelude.{take, flat_map, Writes, device_text}
 use Rattle.host_enumerate.proofs.map_lines.write_devices.Given as goal
 
 abbrev pub invariant-loop-device : goal.invariant-loop-device

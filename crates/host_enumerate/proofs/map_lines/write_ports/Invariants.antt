@@ -1,7 +1,4 @@
-use Rattle.std.proofs.Common.{take}
-use Rattle.std.specs.List.{flat_map}
-use Rattle.rio_chars.specs.Written.{Writes}
-use Rattle.host_enumerate.specs.MapTexts.{port_behind_point}
+use Rattle.host_enumerate.proofs.Prelude.{take, flat_map, Writes, port_behind_point}
 use Rattle.host_enumerate.proofs.map_lines.write_ports.Given as goal
 
 abbrev pub invariant-loop-port : goal.invariant-loop-port

@@ -1,5 +1,4 @@
-use Rattle.std.proofs.Common.{◌≡◌, length}
-use Rattle.host_enumerate.specs.PeerTables.{HasPeers}
+use Rattle.host_enumerate.proofs.Prelude.{◌≡◌, length, HasPeers}
 use Rattle.host_enumerate.proofs.plain.peers_of.Given as goal
 
 abbrev pub invariant-loop-place : goal.invariant-loop-place

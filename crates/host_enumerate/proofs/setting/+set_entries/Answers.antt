@@ -1,6 +1,4 @@
-use Rattle.std.proofs.Common.{rules, ◌-◌, length, take, drop, get_or, sym, ◌∙◌}
-use Rattle.std.proofs.lemmas.Result.{IfOk-weaker}
-use Rattle.fabric_map.proofs.Order.{onward-not_empty}
+use Rattle.host_enumerate.proofs.Prelude.{rules, ◌-◌, length, take, drop, get_or, sym, ◌∙◌, IfOk-weaker, onward-not_empty}
 use Rattle.host_enumerate.proofs.Routing.{split, front_askable, next_askable, next_once, routed-step}
 use Rattle.host_enumerate.proofs.setting.+set_entries.Goals as goal
 

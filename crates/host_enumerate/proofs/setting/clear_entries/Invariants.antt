@@ -1,10 +1,4 @@
-use Rattle.std.proofs.Common.{◌≡◌, Some}
-use Rattle.fabric_script.specs.declared.ports.PortRef.{PortRef}
-use Rattle.maint_registers.specs.Devices.{Registers}
-use Rattle.fabric_map.specs.Topology.{entered}
-use Rattle.host_enumerate.specs.Asking.{Becomes}
-use Rattle.host_enumerate.specs.Setting.{IsCleared}
-use Rattle.host_enumerate.specs.Carrying.{HasAnswered}
+use Rattle.host_enumerate.proofs.Prelude.{◌≡◌, Some, PortRef, Registers, entered, Becomes, IsCleared, HasAnswered}
 use Rattle.host_enumerate.proofs.setting.clear_entries.Given as goal
 
 abbrev pub invariant-loop-id : goal.invariant-loop-id

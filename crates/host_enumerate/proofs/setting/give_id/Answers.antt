@@ -1,7 +1,4 @@
-use Rattle.std.proofs.Common.{◌-◌, length, take, drop, subst}
-use Rattle.std.proofs.lemmas.Result.{IfOk-weaker}
-use Rattle.fabric_script.specs.declared.ports.PortRef.{PortRef}
-use Rattle.host_enumerate.specs.Setting.{HasNewId}
+use Rattle.host_enumerate.proofs.Prelude.{◌-◌, length, take, drop, subst, IfOk-weaker, PortRef, HasNewId}
 use Rattle.host_enumerate.proofs.Opening.{same_end}
 use Rattle.host_enumerate.proofs.Giving.{id-writable, id-left, first_and_rest, whole_path, rest_askable, rest_once, id-given}
 use Rattle.host_enumerate.proofs.setting.give_id.Goals as goal

@@ -1,10 +1,4 @@
-use Rattle.std.proofs.Common.{◌%◌, ap, subst, ◌∙◌}
-use Rattle.fabric_script.specs.declared.ports.PortRef.{PortRef}
-use Rattle.maint_registers.specs.Devices.{Registers}
-use Rattle.fabric_map.specs.declared.map.Kind.TheVariants.{Switch}
-use Rattle.fabric_map.specs.Topology.{entered}
-use Rattle.host_enumerate.specs.Asking.{Becomes}
-use Rattle.host_enumerate.specs.Setting.{SwitchIsSetUp, with_entry, IsCleared}
+use Rattle.host_enumerate.proofs.Prelude.{◌%◌, ap, subst, ◌∙◌, PortRef, Registers, Switch, entered, Becomes, SwitchIsSetUp, with_entry, IsCleared}
 use Rattle.host_enumerate.proofs.Opening.{same_end}
 use Rattle.host_enumerate.proofs.SettingUp.{IsInformed, IsStage, informed, stage_askable, stage_read, default-writable, stage_default, stage_cleared, set_up}
 use Rattle.host_enumerate.proofs.setting.send_home.Given.{Over}

@@ -1,8 +1,4 @@
-use Rattle.std.proofs.Common.{◌≡◌, ◌%◌, slice_set, true, sym, subst, refl}
-use Rattle.std.proofs.lemmas.Result.{IfOk-weaker}
-use Rattle.fabric_script.specs.declared.ports.PortRef.{PortRef}
-use Rattle.maint_registers.specs.Devices.{Registers, is_switch}
-use Rattle.host_enumerate.specs.Asking.{IsAskable, IsWritable}
+use Rattle.host_enumerate.proofs.Prelude.{◌≡◌, ◌%◌, slice_set, true, sym, subst, refl, IfOk-weaker, PortRef, Registers, is_switch, IsAskable, IsWritable}
 use Rattle.host_enumerate.proofs.Opening.{same_end}
 use Rattle.host_enumerate.proofs.Entries.{Leaves, askable-written, selectable, settable, selected, still_switch, entry-left}
 use Rattle.host_enumerate.proofs.setting.set_entry.Goals as goal

@@ -1,8 +1,4 @@
-use Rattle.std.proofs.Common.{rules, ◌≡◌, ℕ, ◌∙◌, Some, subst, arith}
-use Rattle.fabric_map.specs.Walked.{onward}
-use Rattle.fabric_map.specs.Routes.{AllRegisters}
-use Rattle.host_enumerate.specs.Carrying.{IsNumbering}
-use Rattle.host_enumerate.specs.Founds.{IsFoundBehind, tried_after}
+use Rattle.host_enumerate.proofs.Prelude.{rules, ◌≡◌, ℕ, ◌∙◌, Some, subst, arith, onward, AllRegisters, IsNumbering, IsFoundBehind, tried_after}
 use Rattle.host_enumerate.proofs.Carrying.{answered_on, walk_handed_on}
 use Rattle.host_enumerate.proofs.Asked.{most}
 use Rattle.host_enumerate.proofs.Exploring.{entry_passed, underway_back, found_back}

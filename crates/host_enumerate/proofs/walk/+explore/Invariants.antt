@@ -1,8 +1,4 @@
-use Rattle.std.proofs.Common.{◌≡◌, ◌≤◌, ◌-◌, length}
-use Rattle.fabric_map.specs.Walked.{onward}
-use Rattle.fabric_map.specs.Routes.{AllRegisters}
-use Rattle.host_enumerate.specs.Founds.{HasFound}
-use Rattle.host_enumerate.specs.Carrying.{HasAnswered, IsNumbering}
+use Rattle.host_enumerate.proofs.Prelude.{◌≡◌, ◌≤◌, ◌-◌, length, onward, AllRegisters, HasFound, HasAnswered, IsNumbering}
 use Rattle.host_enumerate.proofs.walk.+explore.Given as goal
 
 abbrev pub decreases-explore : goal.decreases-explore

@@ -1,7 +1,5 @@
-use Rattle.std.proofs.Common.{◌∙◌, sym, ap, subst}
-use Rattle.fabric_map.specs.Numbered.{entries_of, IsNumbered}
-use Rattle.host_enumerate.specs.Enumerated.{IsEnumerated}
-use Rattle.host_enumerate.proofs.Carrying.{end_of_walk, enumerated_so, enumerated_none}
+use Rattle.host_enumerate.proofs.Prelude.{◌∙◌, sym, ap, subst, entries_of, IsNumbered}
+use Rattle.host_enumerate.proofs.Carrying.{end_of_walk, enumerated_so}
 use Rattle.host_enumerate.proofs.Numbering.{OwnIdRead, AllNumbered, can_read, id_fits, underway_first, is_numbered, is_free}
 use Rattle.host_enumerate.proofs.walk.enumerate.Given.{Over}
 use Rattle.host_enumerate.proofs.walk.enumerate.Goals.{In_ok-own_id, In_ok-devices}

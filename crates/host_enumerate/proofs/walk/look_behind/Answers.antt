@@ -1,5 +1,4 @@
-use Rattle.std.proofs.Common.{ap, ◌∙◌}
-use Rattle.fabric_map.specs.Topology.{entered}
+use Rattle.host_enumerate.proofs.Prelude.{ap, ◌∙◌, entered}
 use Rattle.host_enumerate.proofs.Carrying.{answered_on, walk_handed_on}
 use Rattle.host_enumerate.proofs.Looking.{found_askable, found_short, status_answers, unlinked, linked, unlinked_passed, found_now, settable_now, IsSetTo, underway_here, askable_here}
 use Rattle.host_enumerate.proofs.Tried.{PathTried}

@@ -1,6 +1,4 @@
-use Rattle.std.proofs.Common.{List, Some, refl, sym, subst, ◌∙◌}
-use Rattle.fabric_map.specs.declared.map.Device.{Device}
-use Rattle.host_enumerate.specs.Ends.{EndsAtLock}
+use Rattle.host_enumerate.proofs.Prelude.{List, Some, refl, sym, subst, ◌∙◌, Device, EndsAtLock}
 use Rattle.host_enumerate.proofs.Tried.{apart_free, is_few, has_room, once_now, locked_askable, PathTried, still_underway, still_opened, taken_on, met_on, met_opened, other_ends}
 use Rattle.host_enumerate.proofs.walk.meet.Given.{Over}
 use Rattle.host_enumerate.proofs.walk.meet.Goals.{In_ok-kind-in-Taken}
@@ -33,8 +31,7 @@ take_in-requires-clause-few g c =
     is_few c.requires.underway c.requires.next c.requires.askable.1 c.requires.begins
 
 pub take_in-requires-clause-room : goal.take_in-requires-clause-room
-take_in-requires-clause-room g c =
-    has_room c.requires.underway c.requires.next c.requires.askable.1
+take_in-requires-clause-room g c = has_room c.requires.underway c.requires.next c.requires.askable.1
 
 -- the device was taken in
 taken : (g : Over) (c : In_ok-kind-in-Taken g)

@@ -1,7 +1,4 @@
-use Rattle.std.proofs.Common.{refl, sym, subst, ◌∙◌}
-use Rattle.fabric_map.specs.Walked.{onward}
-use Rattle.host_enumerate.specs.Carrying.{IsNumbering}
-use Rattle.host_enumerate.specs.Founds.{HasFound}
+use Rattle.host_enumerate.proofs.Prelude.{refl, sym, subst, ◌∙◌, onward, IsNumbering, HasFound}
 use Rattle.host_enumerate.proofs.Carrying.{answered_none, answered_on, walk_handed_on}
 use Rattle.host_enumerate.proofs.Tried.{PathTried}
 use Rattle.host_enumerate.proofs.Starting.{first_past, first_endpoint, first_found, first_done}

@@ -1,6 +1,6 @@
 use Rattle.std.proofs.Common.{◌≡◌, ◌%◌, ◌==◌, false, refl, rules, tests}
 use Rattle.fabric_script.specs.Hits.{DigitsAreBad}
-use Rattle.fabric_script.specs.Texts.{InDigits}
+use Rattle.fabric_script.specs.declared.values.Value.TheVariants.{InDigits}
 use Rattle.io_script.specs.IoWords.{IsMisspelledIo, IsWrong}
 use Rattle.io_script.proofs.words.read_address.Goals as goal
 

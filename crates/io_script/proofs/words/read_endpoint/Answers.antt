@@ -1,7 +1,7 @@
 use Rattle.std.proofs.Common.{◌≡◌, true, false, not, Contains, sym, ap, ◌∙◌, subst, refl, rules}
 use Rattle.fabric_script.specs.Hits.{NodeIsBad, NodeIsUnknown}
 use Rattle.fabric_script.specs.Names.{is_name}
-use Rattle.fabric_script.specs.Texts.{NodeValue}
+use Rattle.fabric_script.specs.declared.values.Value.TheVariants.{Node as NodeValue}
 use Rattle.io_script.specs.IoWords.{IsMisspelledIo, IsWrong}
 use Rattle.io_script.proofs.IoTakes.{named_at, switch_at}
 use Rattle.io_script.proofs.words.read_endpoint.Goals as goal

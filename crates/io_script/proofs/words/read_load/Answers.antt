@@ -1,5 +1,6 @@
 use Rattle.std.proofs.Common.{◌≡◌, length, true, false, sym, ap, ◌∙◌, subst, rules}
-use Rattle.fabric_script.specs.Texts.{Bytes, hex_text}
+use Rattle.fabric_script.specs.declared.values.Value.TheVariants.{Bytes}
+use Rattle.fabric_script.specs.Texts.{hex_text}
 use Rattle.io_script.specs.IoTaking.{data_field}
 use Rattle.io_script.specs.IoWords.{FitsIo}
 use Rattle.io_script.proofs.IoTakes.{data_fits, data_misspelled, data_wrong, fits_by}

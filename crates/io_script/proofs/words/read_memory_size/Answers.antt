@@ -1,6 +1,6 @@
 use Rattle.std.proofs.Common.{◌≡◌, ◌%◌, ◌==◌, false, refl, rules, tests}
 use Rattle.fabric_script.specs.Hits.{NumberIsBad}
-use Rattle.fabric_script.specs.Texts.{Counted}
+use Rattle.fabric_script.specs.declared.values.Value.TheVariants.{Counted}
 use Rattle.io_script.specs.IoWords.{IsMisspelledIo, IsWrong}
 use Rattle.io_script.proofs.words.read_memory_size.Goals as goal
 

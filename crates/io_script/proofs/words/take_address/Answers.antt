@@ -1,4 +1,4 @@
-use Rattle.fabric_script.specs.Texts.{InDigits}
+use Rattle.fabric_script.specs.declared.values.Value.TheVariants.{InDigits}
 use Rattle.io_script.specs.IoForms.{Address}
 use Rattle.io_script.proofs.IoTakes.{takes_io}
 use Rattle.io_script.proofs.words.take_address.Goals as goal

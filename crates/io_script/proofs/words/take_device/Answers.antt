@@ -1,4 +1,4 @@
-use Rattle.fabric_script.specs.Texts.{Counted}
+use Rattle.fabric_script.specs.declared.values.Value.TheVariants.{Counted}
 use Rattle.io_script.specs.IoForms.{DeviceNumber}
 use Rattle.io_script.proofs.IoTakes.{takes_io}
 use Rattle.io_script.proofs.words.take_device.Goals as goal

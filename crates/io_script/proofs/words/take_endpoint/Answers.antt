@@ -1,4 +1,4 @@
-use Rattle.fabric_script.specs.Texts.{NodeValue}
+use Rattle.fabric_script.specs.declared.values.Value.TheVariants.{Node as NodeValue}
 use Rattle.io_script.specs.IoForms.{AnEndpoint}
 use Rattle.io_script.proofs.IoTakes.{takes_io}
 use Rattle.io_script.proofs.words.take_endpoint.Goals as goal

@@ -1,4 +1,4 @@
-use Rattle.fabric_script.specs.Texts.{Bytes}
+use Rattle.fabric_script.specs.declared.values.Value.TheVariants.{Bytes}
 use Rattle.io_script.specs.IoTaking.{data_field}
 use Rattle.io_script.proofs.IoTakes.{takes_io}
 use Rattle.io_script.proofs.words.take_load.Goals as goal

@@ -1,4 +1,4 @@
-use Rattle.fabric_script.specs.Texts.{Counted}
+use Rattle.fabric_script.specs.declared.values.Value.TheVariants.{Counted}
 use Rattle.io_script.specs.IoForms.{ReadSize}
 use Rattle.io_script.proofs.IoTakes.{takes_io}
 use Rattle.io_script.proofs.words.take_read_size.Goals as goal

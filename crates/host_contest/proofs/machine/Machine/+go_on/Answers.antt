@@ -1,5 +1,4 @@
-use Rattle.std.proofs.Common.{◌++◌, ◌∙◌, sym, ap, option_to_list}
-use Rattle.host_contest.specs.Machines.{machine_of}
+use Rattle.host_contest.proofs.Prelude.{◌++◌, ◌∙◌, sym, ap, option_to_list, machine_of}
 use Rattle.host_contest.proofs.Machines.{on_ok, gone_past}
 use Rattle.host_contest.proofs.machine.Machine.+go_on.Goals as goal
 

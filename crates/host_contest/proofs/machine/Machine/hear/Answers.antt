@@ -1,6 +1,4 @@
-use Rattle.std.proofs.Common.{◌∙◌, sym, ap, length}
-use Rattle.contest_machine.specs.Machine.{told_at}
-use Rattle.host_contest.specs.Machines.{machine_of}
+use Rattle.host_contest.proofs.Prelude.{◌∙◌, sym, ap, length, told_at, machine_of}
 use Rattle.host_contest.proofs.Machines.{on_ok, short_up, bounded_at}
 use Rattle.host_contest.proofs.machine.Machine.hear.Goals as goal
 

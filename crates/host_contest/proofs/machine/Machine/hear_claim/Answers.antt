@@ -1,6 +1,4 @@
-use Rattle.std.proofs.Common.{◌∙◌, ◌==◌, eq-eqb}
-use Rattle.contest_machine.specs.Machine.{taken, judged}
-use Rattle.host_contest.specs.Machines.{machine_of}
+use Rattle.host_contest.proofs.Prelude.{◌∙◌, ◌==◌, eq-eqb, taken, judged, machine_of}
 use Rattle.host_contest.proofs.Machines.{on_ok, choose}
 use Rattle.host_contest.proofs.machine.Machine.hear_claim.Goals as goal
 

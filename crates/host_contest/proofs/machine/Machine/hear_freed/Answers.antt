@@ -1,5 +1,4 @@
-use Rattle.std.proofs.Common.{◌-◌, take, ◌∙◌, ap}
-use Rattle.host_contest.specs.Machines.{machine_of}
+use Rattle.host_contest.proofs.Prelude.{◌-◌, take, ◌∙◌, ap, machine_of}
 use Rattle.host_contest.proofs.Machines.{on_ok, all_but_last, freed_so}
 use Rattle.host_contest.proofs.machine.Machine.hear_freed.Goals as goal
 

@@ -1,6 +1,4 @@
-use Rattle.std.proofs.Common.{◌∙◌, ◌==◌, eq-eqb}
-use Rattle.contest_machine.specs.Machine.{taken, gone_on}
-use Rattle.host_contest.specs.Machines.{machine_of}
+use Rattle.host_contest.proofs.Prelude.{◌∙◌, ◌==◌, eq-eqb, taken, gone_on, machine_of}
 use Rattle.host_contest.proofs.Machines.{on_ok, choose}
 use Rattle.host_contest.proofs.machine.Machine.hear_tag.Goals as goal
 

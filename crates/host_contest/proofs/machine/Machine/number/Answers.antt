@@ -1,6 +1,4 @@
-use Rattle.std.proofs.Common.{◌*◌, ◌++◌, ◌∷◌, [], ◌∙◌, sym, ap}
-use Rattle.contest_machine.specs.Machine.{write, routes_to, numbered}
-use Rattle.host_contest.specs.Machines.{machine_of}
+use Rattle.host_contest.proofs.Prelude.{◌*◌, ◌++◌, ◌∷◌, [], ◌∙◌, sym, ap, write, routes_to, numbered, machine_of}
 use Rattle.host_contest.proofs.Machines.{on_ok, no_length, no_empty, number_so}
 use Rattle.host_contest.proofs.machine.Machine.number.Goals as goal
 

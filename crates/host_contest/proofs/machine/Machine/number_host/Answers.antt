@@ -1,6 +1,5 @@
-use Rattle.std.proofs.Common.{◌∙◌, ap}
+use Rattle.host_contest.proofs.Prelude.{◌∙◌, ap, machine_of}
 use Rattle.fabric_map.specs.Walked.{onward}
-use Rattle.host_contest.specs.Machines.{machine_of}
 use Rattle.host_contest.proofs.Machines.{host_moved}
 use Rattle.host_contest.proofs.machine.Machine.number_host.Goals as goal
 

@@ -1,6 +1,4 @@
-use Rattle.std.proofs.Common.{◌≤◌, List, length, sym, subst}
-use Rattle.fabric_map.specs.declared.map.Device.{Device}
-use Rattle.host_contest.specs.Machines.{machine_of}
+use Rattle.host_contest.proofs.Prelude.{◌≤◌, List, length, sym, subst, Device, machine_of}
 use Rattle.host_contest.proofs.Machines.{no_view, same_devices, set_up_so}
 use Rattle.host_contest.proofs.machine.Machine.set_up.Goals as goal
 

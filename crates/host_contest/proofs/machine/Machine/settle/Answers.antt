@@ -1,5 +1,4 @@
-use Rattle.std.proofs.Common.{◌≡◌, true, ◌∙◌, sym}
-use Rattle.host_contest.specs.Machines.{machine_of}
+use Rattle.host_contest.proofs.Prelude.{◌≡◌, true, ◌∙◌, sym, machine_of}
 use Rattle.host_contest.proofs.Machines.{on_ok, no_length, settles}
 use Rattle.host_contest.proofs.machine.Machine.settle.Goals as goal
 

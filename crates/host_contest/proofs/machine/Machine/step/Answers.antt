@@ -1,5 +1,4 @@
-use Rattle.std.proofs.Common.{◌∙◌, sym}
-use Rattle.host_contest.specs.Machines.{machine_of}
+use Rattle.host_contest.proofs.Prelude.{◌∙◌, sym, machine_of}
 use Rattle.host_contest.proofs.Stepping.{few, answered_so, can_after}
 use Rattle.host_contest.proofs.machine.Machine.step.Goals as goal
 

@@ -1,5 +1,4 @@
-use Rattle.std.proofs.Common.{◌++◌, ◌∙◌, ap, option_to_list}
-use Rattle.host_contest.specs.Machines.{machine_of}
+use Rattle.host_contest.proofs.Prelude.{◌++◌, ◌∙◌, ap, option_to_list, machine_of}
 use Rattle.host_contest.proofs.Machines.{on_ok, told_write}
 use Rattle.host_contest.proofs.machine.Machine.told.Goals as goal
 

@@ -1,8 +1,4 @@
-use Rattle.std.proofs.Common.{true, ◌∙◌}
-use Rattle.contest_machine.specs.Machine.{stepped}
-use Rattle.contest_machine.specs.Turns.{locked_on, walker_turned}
-use Rattle.host_contest.specs.Machines.{machine_of}
-use Rattle.host_contest.specs.Steps.{state_in}
+use Rattle.host_contest.proofs.Prelude.{true, ◌∙◌, stepped, locked_on, walker_turned, machine_of, state_in}
 use Rattle.host_contest.proofs.Machines.{on_ok}
 use Rattle.host_contest.proofs.Stepping.{turned_first, chain, begun_at_host, host_after, locked_at_host, same_views}
 use Rattle.host_contest.proofs.machine.Machine.turn.Goals as goal

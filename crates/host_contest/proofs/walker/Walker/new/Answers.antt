@@ -1,5 +1,4 @@
-use Rattle.std.proofs.Common.{◌≡◌, false}
-use Rattle.host_contest.specs.Machines.{machine_is_done}
+use Rattle.host_contest.proofs.Prelude.{◌≡◌, false, machine_is_done}
 use Rattle.host_contest.proofs.Machines.{no_view, new_is_not_done}
 use Rattle.host_contest.proofs.walker.Walker.new.Goals as goal
 

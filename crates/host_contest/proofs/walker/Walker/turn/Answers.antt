@@ -1,5 +1,4 @@
-use Rattle.std.proofs.Common.{◌∙◌, sym, ap}
-use Rattle.host_contest.specs.Machines.{machine_of}
+use Rattle.host_contest.proofs.Prelude.{◌∙◌, sym, ap, machine_of}
 use Rattle.host_contest.specs.Walkers.{machine_in}
 use Rattle.host_contest.proofs.Machines.{clear_is}
 use Rattle.host_contest.proofs.Stepping.{with_walker, can_same, came_from}

@@ -1,7 +1,4 @@
-use Rattle.std.proofs.Common.{◌<◌, length, ◌∙◌, sym, ap, subst}
-use Rattle.maint_registers.specs.Changes.{linked_at}
-use Rattle.maint_registers.proofs.ChangeLaws.{length-with_device}
-use Rattle.host_enumerate.specs.Devised.{MayDevise}
+use Rattle.host_enumerate.proofs.Prelude.{◌<◌, length, ◌∙◌, sym, ap, subst, linked_at, length-with_device, MayDevise}
 use Rattle.host_enumerate.proofs.devising.Devised.add.Goals as goal
 
 pub tell_link-requires-in-Link-clause-node : goal.tell_link-requires-in-Link-clause-node

@@ -1,5 +1,4 @@
-use Rattle.std.proofs.Common.{rules, ◌∙◌, sym, ap}
-use Rattle.maint_registers.specs.Routes.{next_port}
+use Rattle.host_enumerate.proofs.Prelude.{rules, ◌∙◌, sym, ap, next_port}
 use Rattle.host_enumerate.proofs.PlainWalks.{linked-inside, walk-endpoint, walk-discarded, walk-passed}
 use Rattle.host_enumerate.proofs.plain.PlainMaint.+walk.Goals as goal
 

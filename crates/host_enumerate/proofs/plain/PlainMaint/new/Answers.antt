@@ -1,6 +1,4 @@
-use Rattle.std.proofs.Common.{List, arith, subst}
-use Rattle.fabric_script.specs.declared.ports.PortRef.{PortRef}
-use Rattle.host_enumerate.specs.PeerTables.{HasPeers}
+use Rattle.host_enumerate.proofs.Prelude.{List, arith, subst, PortRef, HasPeers}
 use Rattle.host_enumerate.proofs.NewFabrics.{made_fabric}
 use Rattle.host_enumerate.proofs.plain.PlainMaint.new.Goals as goal
 

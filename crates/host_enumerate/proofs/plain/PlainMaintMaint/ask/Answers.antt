@@ -1,9 +1,4 @@
-use Rattle.std.proofs.Common.{◌≡◌, ◌∙◌, sym, ap}
-use Rattle.fabric_script.specs.declared.ports.PortRef.{PortRef}
-use Rattle.fabric_script.specs.Ports.{port_at}
-use Rattle.std.proofs.lemmas.Option.{same_Some}
-use Rattle.host_enumerate.specs.Accesses.{after_access}
-use Rattle.fabric_map.specs.Plain.{topology_of, registers_of}
+use Rattle.host_enumerate.proofs.Prelude.{◌≡◌, ◌∙◌, sym, ap, PortRef, port_at, same_Some, after_access, topology_of, registers_of}
 use Rattle.host_enumerate.proofs.Accessed.{accessed-registers, accessed-topology, accessed-whole}
 use Rattle.host_enumerate.proofs.PlainWalks.{walk-inside}
 use Rattle.host_enumerate.proofs.plain.PlainMaintMaint.ask.Goals as goal
