@@ -16,11 +16,14 @@ use Rattle.rio_symbols.specs.Spelling.{symbol_bytes}
 use Rattle.rio_symbols.proofs.SpellingLaws.{spells_own}
 use Rattle.rio_packets.specs.LinkForm.{AreBytes, Passes}
 use Rattle.link_model.specs.ReadingSpelt.{bytes_with_ack, data_chars, delimiter_char, symbol_chars_of}
-use Rattle.fabric_script.specs.Forms.{Field, Number, Hex, Character}
+use Rattle.fabric_script.specs.declared.fields.Field.{Field}
+use Rattle.fabric_script.specs.declared.fields.Field.TheVariants.{Number, Hex, Character}
 use Rattle.fabric_script.specs.Hits.{FitsField}
 use Rattle.fabric_script.specs.Known.{nothing, of_script}
 use Rattle.fabric_script.specs.Lines.{words_of}
-use Rattle.fabric_script.specs.Texts.{Value, Counted, Bytes, Code, value_text}
+use Rattle.fabric_script.specs.declared.values.Value.{Value}
+use Rattle.fabric_script.specs.declared.values.Value.TheVariants.{Counted, Bytes, Code}
+use Rattle.fabric_script.specs.Texts.{value_text}
 use Rattle.fabric_script.proofs.Joins.{AreVisible, is_visible, join_lacks, split_join, visible_values}
 use Rattle.fabric_script.proofs.KnownLaws.{nothing-orderly}
 use Rattle.fabric_script.proofs.LineLaws.{IsSmall}

@@ -173,5 +173,8 @@ module _ (script pending : List ℕ) (left : Option (List ℕ)) (faults : ℕ) w
     lines = h.lines;
     behind = now;
     reads = h.reads;
-    says = ((h.none_parts, subst (λ (l : List ℕ). most_line < length l) h.script_is long), h.counts);
+    says = (
+      (h.none_parts, subst (λ (l : List ℕ). most_line < length l) h.script_is long),
+      h.counts,
+    );
   }

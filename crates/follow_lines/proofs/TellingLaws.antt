@@ -26,7 +26,7 @@ has_written verdict was end out which is empty = record {
 }
 
 -- memory for the verdict was not given
-pub no_memory : (end : FollowEnd) (out : Outgoing)
+no_memory : (end : FollowEnd) (out : Outgoing)
     → end ≡ (if out.failed then F.WriteFault else F.NoMemory)
     → (end ≡ F.NoMemory) ⊎ (end ≡ F.WriteFault)
 no_memory end out is = by_failed out.failed is
@@ -35,6 +35,15 @@ no_memory end out is = by_failed out.failed is
         → (end ≡ F.NoMemory) ⊎ (end ≡ F.WriteFault)
     by_failed true is = inr is
     by_failed false is = inl is
+
+-- memory for the line was not given, so nothing was told
+pub untold : (verdict : Result ℕ FollowEnd) (end : FollowEnd) (begun out : Outgoing)
+    → Writes begun out [] → end ≡ (if out.failed then F.WriteFault else F.NoMemory)
+    → out.waiting ≡ []
+    → ((end ≡ F.NoMemory) ⊎ (end ≡ F.WriteFault)) × Writes begun out []
+    × HasWritten verdict end out
+untold verdict end begun out told is empty =
+    (no_memory end out is, told, has_written verdict F.NoMemory end out (inr refl) is empty)
 
 -- an end that is no failed write leaves all of a text written
 by_end : (end : FollowEnd) (written written_after : Option (List ℕ)) (faults faults_after : ℕ)

@@ -19,7 +19,8 @@ end_line_text (F.Unlawful line reason) =
     codes "unlawful " ++ (decimal line ++ (codes " " ++ (decimal reason ++ codes "\n")))
 end_line_text (F.Wrong line wrong) = codes "wrong " ++ (decimal line ++ codes "\n")
 end_line_text (F.Refused refusal) =
-    codes "refused " ++ (decimal refusal.line ++ (codes " " ++ (decimal refusal.reason ++ codes "\n")))
+    codes "refused " ++ (decimal refusal.line ++ (codes " "
+    ++ (decimal refusal.reason ++ codes "\n")))
 end_line_text end = []
 
 -- the line of a verdict, or nothing if there is none

@@ -7,8 +7,7 @@ ghost use Rattle.library_calls.specs.FabricLines.{FabricLineDid, TellsFabricLine
 use crate::status::CallStatus;
 use crate::texts::take_text;
 use live_fabric::{AfterLine, BrokenOff, Session};
-use live_lines::TextSink;
-use rio_chars::{NoMemory, Outbox, Sink, TextBuffer};
+use rio_chars::{NoMemory, Outbox, Sink, TextBuffer, TextSink};
 use std::alloc::Global;
 use std::marker::Model;
 

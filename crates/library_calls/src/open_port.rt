@@ -6,11 +6,10 @@ ghost use Rattle.library_calls.specs.PortLines.{PortLineDid, WritesBut};
 
 use crate::status::CallStatus;
 use crate::texts::take_text;
-use live_lines::TextSink;
 use port_lines::{
     Came, ClockedPort, PortRequest, PortSettings, RequestRefusal, answer, read_request,
 };
-use rio_chars::{NoMemory, Outbox, Sink, TextBuffer};
+use rio_chars::{NoMemory, Outbox, Sink, TextBuffer, TextSink};
 use std::alloc::Global;
 use std::marker::Model;
 

@@ -11,7 +11,7 @@ use Rattle.trace_lines.specs.declared.writer.TraceWriter.{TraceWriter}
 use Rattle.fabric_script.specs.declared.lines.Numbered.{Numbered}
 use Rattle.fabric_script.specs.SetUps.{SetUpLines, for_event}
 use Rattle.fabric_ports.specs.declared.fabric.Fabric.{Fabric}
-use Rattle.fabric_replay.proofs.LineFeeds.{names_feedless}
+use Rattle.live_fabric.proofs.LineFeeds.{names_feedless}
 use Rattle.outside_lines.specs.declared.facing.Facing.{Facing}
 use Rattle.outside_lines.specs.declared.reading.OutsideLine.{OutsideLine}
 use Rattle.outside_lines.specs.declared.reading.OutsideLine.TheVariants as Lines
@@ -57,7 +57,8 @@ face_holds put now taken at fabric_now holds some text set_up fabric facing face
     blocks = holds.trace.blocks;
   };
   stands =
-      subst (λ f. StandsBy f (record taken { facing = taken.facing ++ at ∷ [] })) (sym (fabric ∙ some))
+      subst (λ f. StandsBy f (record taken { facing = taken.facing ++ at ∷ [] }))
+      (sym (fabric ∙ some))
       (subst (λ f. StandsBy f taken) some holds.stands);
   counts = holds.counts;
   facing = facing ∙ ap (λ l. l ++ at ∷ []) holds.facing;

@@ -12,7 +12,7 @@ use Rattle.fabric_script.specs.Scripts.{ScriptPasses}
 use Rattle.fabric_script.proofs.Points.{Lacks, and_parts}
 use Rattle.fabric_model.specs.Steps.{Hold, Free, Take, Leave, Move, Drop, Answer, Linked, AtNode, ByDevice}
 use Rattle.fabric_trace.specs.Known.{UndetectedAt}
-use Rattle.fabric_replay.proofs.LineFeeds.{feedless, Feedless, AreFeedless, names_feedless, trace_line}
+use Rattle.live_fabric.proofs.LineFeeds.{feedless, Feedless, AreFeedless, names_feedless, trace_line}
 use Rattle.trace_lines.specs.Lines.{TraceLine, Begun, Stepped, Signed, Lacked, Ended, Undetected, Sent, Got, Fired, Full, Empty, Short, Early, NoStep}
 use Rattle.trace_lines.specs.Text.{trace_line_text, trace_text}
 use Rattle.fabric_script.specs.declared.lines.Line.{Line}

@@ -42,8 +42,6 @@ nothing_held = record { taken = nothing_taken; quiet = false; all = false; nodes
 abbrev pub nodes_served : SessionHeld → List ℕ
 nodes_served held = served_of held.all held.nodes held.taken.set_up
 
--- ---- lines of its own
-
 abbrev pub own_text : OwnLine → List ℕ
 own_text Quiet = codes "quiet"
 own_text Loud = codes "loud"
@@ -53,7 +51,7 @@ own_text ServeAll = codes "serve all"
 abbrev pub IsNoOwnLine : List ℕ → Type 0
 IsNoOwnLine line = (own : OwnLine) → own_text own ≢ line
 
--- what is held behind one of them
+-- what is held after one of them
 abbrev pub held_after : OwnLine → SessionHeld → SessionHeld
 held_after Quiet held = record held { quiet = true }
 held_after Loud held = record held { quiet = false }

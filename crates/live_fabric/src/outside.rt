@@ -10,11 +10,10 @@ ghost use Rattle.live_fabric.specs.Outside.{MayGoOn, OutsideActed, MayCarryOutsi
 use crate::answers::BrokenOff;
 use crate::live::Live;
 use fabric_ports::Fabric;
-use live_lines::TextSink;
 use outside_lines::OutsideLine;
-use rio_chars::{NoMemory, Outbox, Sink, TextBuffer};
+use rio_chars::{NoMemory, Outbox, Sink, TextBuffer, TextSink};
 use std::alloc::Global;
-use trace_lines::TraceWriter;
+use trace_lines::{PacketCounts, TraceWriter};
 
 /// Does what a line of a device outside says, and returns what is told of it.
 pub(crate) fn outside_text(
@@ -87,7 +86,11 @@ fn carry<K: Sink>(
 {
     let mut fabric = live.take_fabric(alloc)?;
     let names = live.set_up().names();
-    let mut writer = TraceWriter { outbox, names };
+    let mut writer = TraceWriter {
+        outbox,
+        names,
+        counts: PacketCounts::new(),
+    };
     act(alloc, &mut fabric, line, &mut writer)?;
     live.put_fabric(fabric);
     if let OutsideLine::External(at) = line {

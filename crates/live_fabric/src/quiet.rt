@@ -8,31 +8,8 @@ ghost use Rattle.live_fabric.specs.Pieces.{is_untold, quiet_text};
 use crate::answers::{BrokenOff, Told, happen};
 use crate::live::Live;
 use fabric_script::Line;
-use rio_chars::{Failed, NoMemory, Outbox, Sink, TextBuffer};
+use rio_chars::{NoMemory, Outbox, Sink, TextBuffer, TextSink};
 use std::alloc::Global;
-
-/// A sink that keeps what is written, as long as memory is given.
-#[derive(Drop)]
-struct KeptText {
-    text: Vec<u8>,
-    faults: u64,
-}
-
-impl Sink for KeptText {
-    ghost written = { λ sink. Some sink.text.items };
-
-    ghost faults = { λ sink. sink.faults };
-
-    fn write(&mut self, piece: &[u8]) -> Result<usize, Failed> {
-        match self.text.extend_from_slice(piece) {
-            Ok(()) => Ok(piece.len()),
-            Err(_) => {
-                self.faults = self.faults.saturating_add(1);
-                Err(Failed)
-            }
-        }
-    }
-}
 
 /// Carries out an event, and writes its block without the lines with characters. The whole block is
 /// kept until it is at hand: if memory runs out, nothing is written.
@@ -49,12 +26,9 @@ pub(crate) fn happen_quietly<K: Sink>(
         → Happens true taken number event.now outbox.old outbox.new live.new told) }
     ensures same { OnErr result (outbox.new ≡ outbox.old) }
 {
-    let mut sink = KeptText {
-        text: Vec::new(alloc),
-        faults: 0,
-    };
+    let mut sink = TextSink::new(alloc);
     let told = happen_into(alloc, live, number, event, &mut sink)?;
-    let text = quiet_lines(alloc, sink.text.as_slice())?;
+    let text = quiet_lines(alloc, sink.as_slice())?;
     outbox.write(text.as_slice());
     Ok(told)
 }

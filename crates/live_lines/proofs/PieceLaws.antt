@@ -84,14 +84,50 @@ looked_length items begin most within =
     (omega (arith, length-drop begin items, within))
     ∙ omega arith
 
--- the front that is taken, of what is left now
-pub front_is : (items looked now : List ℕ) (begin end most n : ℕ) → looked ≡ items
-    → left_of items begin end ≡ now → begin + most ≤ end → n ≤ most
-    → take n (between begin (begin + most) looked) ≡ take n now
-front_is items looked now begin end most n same is within few =
-    ap (λ l. take n (between begin (begin + most) l)) same
-    ∙ piece_front items begin (begin + most) end n within (omega (arith, few))
-    ∙ ap (take n) is
+-- A piece of what is left now: so many bytes are looked at, and the front of them is taken.
+pub record IsPiece (items looked now : List ℕ) (begin end most n : ℕ) : Type 0 where
+  pub within : begin + most ≤ end
+  pub inside : end ≤ length items
+  pub all : length (between begin (begin + most) looked) ≡ most
+  pub few : n ≤ most
+  pub left : length now ≡ end - begin
+  pub front : take n (between begin (begin + most) looked) ≡ take n now
+  pub long : length (take n now) ≡ n
+
+pub piece_is : (items looked now : List ℕ) (begin end most n : ℕ) → looked ≡ items
+    → left_of items begin end ≡ now
+    → (length items ≡ 65536) × (begin ≤ end) × (end ≤ 65536) → most ≤ end - begin
+    → n ≤ length (between begin (begin + most) looked)
+    → IsPiece items looked now begin end most n
+piece_is items looked now begin end most n same is holds within least = record {
+  within = within_end;
+  inside = inside;
+  all = all;
+  few = few;
+  left = left;
+  front =
+      ap (λ l. take n (between begin (begin + most) l)) same
+      ∙ piece_front items begin (begin + most) end n within_end (omega (arith, few))
+      ∙ ap (take n) is;
+  long = length-take-le n now (omega (arith, left, few, within));
+}
+  where
+    within_end : begin + most ≤ end
+    within_end = omega (arith, within, holds.1)
+
+    inside : end ≤ length items
+    inside = omega (arith, holds.0, holds.2)
+
+    all : length (between begin (begin + most) looked) ≡ most
+    all =
+        ap (λ l. length (between begin (begin + most) l)) same
+        ∙ looked_length items begin most (omega (arith, within_end, inside))
+
+    few : n ≤ most
+    few = omega (arith, least, all)
+
+    left : length now ≡ end - begin
+    left = ap length (sym is) ∙ left_length items begin end inside
 
 -- what is left now is the front, its line feed, and what is left behind
 pub split_feed : (items looked now : List ℕ) (begin end most n one : ℕ) → looked ≡ items

@@ -1,8 +1,8 @@
 -- Input whose last line has a line feed, whether it came with one or not.
 use Rattle.std.specs.Prelude.{ℕ, ◌==◌, Bool, not, List, [], ◌∷◌, ◌++◌, Option, option_map, codes, if◌then◌else◌}
 
--- Whether bytes end within a line: the last of them is no line feed, or, if there is none, a line was
--- begun before.
+-- Whether bytes end within a line: the last of them is no line feed, or, if there is none, a line
+-- was begun before.
 unfoldable pub inside_after : Bool → List ℕ → Bool
 inside_after inside [] = inside
 inside_after inside (byte ∷ bytes) = inside_after (not (byte == 10)) bytes

@@ -9,7 +9,6 @@
 //! - [`LineReader`] and [`LineEnd`]: the lines of a source, and why there is no further one
 //! - [`FeedAtEnd`]: a source whose last line has a line feed, whether it came with one or not
 //! - [`LiveStatus`], `status_number` and `say`: how a program ended
-//! - [`TextSink`]: a sink in memory
 //! - `start_lines`: the whole of a `main`; `tell_question`: what `--help` and `--version` are told
 #![tactic(auto)]
 
@@ -17,10 +16,8 @@ mod feed_at_end;
 mod input;
 mod starting;
 mod status;
-mod text_sink;
 
 pub use feed_at_end::FeedAtEnd;
 pub use input::{LineEnd, LineReader, MOST_LINE};
 pub use starting::{start_lines, tell_question};
 pub use status::{LiveStatus, say, status_number};
-pub use text_sink::TextSink;

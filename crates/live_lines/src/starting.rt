@@ -8,11 +8,10 @@ use rio_chars::{Sink, StdSource};
 use std::process::ExitCode;
 
 /// Runs a program with the arguments and the standard streams of the system. The last line of
-/// standard input needs no line feed. If the system does not give the arguments, the status is 1 and
-/// nothing is written.
+/// standard input needs no line feed. If the system does not give the arguments, the status is 1
+/// and nothing is written.
 pub fn start_lines<P: Program>(rt: &HostRuntime, program: &P) -> ExitCode {
-    let mut source = FeedAtEnd::new(StdSource::new(rt.reader()));
-    start_reading(rt, program, &mut source)
+    start_reading(rt, program, FeedAtEnd::new(StdSource::new(rt.reader())))
 }
 
 /// Writes what is answered to a question: this help, or the program's name and the version. The

@@ -9,7 +9,8 @@
 //! - [`RequestRefusal`] and [`RequestFault`]: why a line is refused, and what is said of it
 //! - `answer`: does what a line asks for, and tells the answer
 //! - [`ClockedPort`]: a port by clocks, of which each takes a character and gives one, told by
-//!   [`Clocked`]; [`PortSettings`]: how it is made, and what it does by itself
+//!   [`Clocked`]; [`PortSettings`]: how it is made, and what it does by itself;
+//!   `number_of_buffers`: what a word says of it
 //! - `clocks_give_whole_bursts`, `only_unanswered_ports_time_out`: laws of clocks
 //! - `take_char`: leads a character through a port, with room for packets that is used again,
 //!   [`Came`]
@@ -38,5 +39,5 @@ pub use faults::{RequestFault, RequestRefusal};
 pub use laws::{clocks_give_whole_bursts, only_unanswered_ports_time_out};
 pub use patience::out_number;
 pub use requests::{PortRequest, read_request};
-pub use settings::PortSettings;
+pub use settings::{PortSettings, number_of_buffers};
 pub use taking::highest_held;

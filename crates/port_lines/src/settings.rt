@@ -1,6 +1,9 @@
 //! How a port by clocks is made.
-ghost use Rattle.std.specs.Prelude.{◌≡◌};
+ghost use Rattle.std.specs.Prelude.{◌≡◌, ◌≢◌, ◌≤◌, ℕ, MatchOption};
+ghost use Rattle.std.specs.Fmt.{decimal};
 ghost use Rattle.port_lines.specs.Clocks.{plain_settings};
+
+use fabric_script::read_number;
 
 /// How a port by clocks is made, and what it does by itself.
 #[derive(Clone, Copy, Debug, PartialEq, Eq)]
@@ -26,5 +29,17 @@ impl PortSettings {
             takes_at_once: false,
             patience: 0,
         }
+    }
+}
+
+/// The number of buffers that a word spells.
+pub fn number_of_buffers(word: &[u8]) -> Option<u8>
+    ensures { MatchOption result
+        ((buffers : ℕ) → 4 ≤ buffers → buffers ≤ 30 → word.now ≢ decimal buffers)
+        (λ buffers. (4 ≤ buffers) × (buffers ≤ 30) × (word.now ≡ decimal buffers)) }
+{
+    match read_number(word) {
+        Some(buffers) if 4 <= buffers && buffers <= 30 => Some(buffers as u8),
+        _ => None,
     }
 }

@@ -4,7 +4,8 @@
 //! Promised: the two words that each program knows are found, and their answers are written. Left
 //! out: what a program does, and that standard input is a terminal, which the system says.
 //!
-//! - [`Program`] and `start`: the whole of a `main`; `start_reading`: with a source of its own
+//! - [`Program`], [`Given`] and `start`: the whole of a `main`; `start_reading`: with a source of
+//!   its own
 //! - [`Question`]: `question_of`, `answer_question`
 #![tactic(auto)]
 
@@ -12,4 +13,4 @@ mod questions;
 mod starting;
 
 pub use questions::{Question, answer_question, question_of};
-pub use starting::{Program, start, start_reading};
+pub use starting::{Given, Program, start, start_reading};

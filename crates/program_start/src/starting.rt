@@ -9,47 +9,58 @@ use std::io::IsTerminal;
 use std::process::ExitCode;
 use std::{env, io};
 
+/// What a program is given.
+#[derive(Drop)]
+pub struct Given<'a, S, K, M> {
+    /// Where memory comes from.
+    pub alloc: Global,
+    /// The words that follow the program's name.
+    pub words: &'a [String],
+    /// Where it reads.
+    pub source: S,
+    /// Where it writes.
+    pub sink: K,
+    /// Where it says what else there is to say.
+    pub messages: M,
+}
+
 /// What is started.
 pub trait Program {
     /// What is said at a terminal before these words are done, which follow the program's name: a
     /// line that says what standard input is read for, or nothing if it is not read.
     fn waits_for(&self, words: &[String]) -> &'static [u8];
 
-    /// Does what these words ask, which follow the program's name, and answers the exit status.
-    fn run<S: Source, K: Sink, M: Sink>(
-        &self,
-        alloc: Global,
-        words: &[String],
-        source: &mut S,
-        sink: &mut K,
-        messages: &mut M,
-    ) -> u8;
+    /// Does what the words ask, and answers the exit status.
+    fn run<S: Source, K: Sink, M: Sink>(&self, given: &mut Given<S, K, M>) -> u8;
 }
 
 /// Runs a program with the arguments and the standard streams of the system. If the system does not
 /// give the arguments, the status is 1 and nothing is written.
 pub fn start<P: Program>(rt: &HostRuntime, program: &P) -> ExitCode {
-    let mut source = StdSource::new(rt.reader());
-    start_reading(rt, program, &mut source)
+    start_reading(rt, program, StdSource::new(rt.reader()))
 }
 
 /// The same, with a source of its own that reads standard input.
-pub fn start_reading<P: Program, S: Source>(
+pub fn start_reading<P: Program, S: Source + Drop>(
     rt: &HostRuntime,
     program: &P,
-    source: &mut S,
+    source: S,
 ) -> ExitCode {
     let Ok(arguments) = arguments(rt) else {
         return ExitCode::from(1);
     };
-    let mut sink = StdSink::new(io::writer(rt));
-    let mut messages = StdSink::new(rt.stderr());
     let words = after_name(arguments.as_slice());
+    let mut given = Given {
+        alloc: rt.alloc(),
+        words,
+        source,
+        sink: StdSink::new(io::writer(rt)),
+        messages: StdSink::new(rt.stderr()),
+    };
     if rt.stdin().is_terminal() {
-        write_unless(false, &mut messages, program.waits_for(words));
+        write_unless(false, &mut given.messages, program.waits_for(words));
     }
-    let status = program.run(rt.alloc(), words, source, &mut sink, &mut messages);
-    ExitCode::from(status)
+    ExitCode::from(program.run(&mut given))
 }
 
 /// The program's name and the words that follow it.

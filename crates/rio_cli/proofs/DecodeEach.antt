@@ -83,7 +83,8 @@ with_first line lines first rest = (
       rest.1,
 )
 
-spelled_or_bad : (lines : List (List ℕ)) → AreSpelled (flat_map words_in_line lines) ⊎ FirstBad lines
+spelled_or_bad : (lines : List (List ℕ))
+    → AreSpelled (flat_map words_in_line lines) ⊎ FirstBad lines
 spelled_or_bad [] = inl ([], tt)
 spelled_or_bad (line ∷ lines) = elim (spelled_or_not (words_in_line line)) [
   | inl first ↦ elim (spelled_or_bad lines) [

@@ -3,7 +3,7 @@ use Rattle.std.specs.Prelude.{◌≡◌, ◌<◌, ◌⊎◌, ℕ, ◌+◌, List,
 use Rattle.std.specs.Io.KnownBytes.{Appends, Keeps}
 use Rattle.rio_chars.specs.Faults.{Rose}
 use Rattle.rio_chars.specs.Fronts.{AppendsFront}
-use Rattle.link_wires.specs.declared.edits.Edit.{Edit}
+use Rattle.rio_chars.specs.declared.edit.Edit.{Edit}
 use Rattle.fabric_script.specs.declared.lines.Numbered.{Numbered}
 use Rattle.fabric_script.specs.Known.{of_set_up}
 use Rattle.fabric_script.specs.Scripts.{IsScriptIn, RefusedIn}

@@ -43,11 +43,10 @@ pub use laws::{
     every_input_is_accepted_or_refused, every_text_is_characters_or_refused, inputs_are_judged_once,
 };
 pub use program::run;
-use program_start::{Program, start};
+use program_start::{Given, Program, start};
 pub use refusal::Refusal;
 use rio_chars::{Sink, Source};
 pub use status::{Status, status_number};
-use std::alloc::Global;
 use std::process::ExitCode;
 pub use top::{answer, rio};
 
@@ -59,15 +58,8 @@ impl Program for Rio {
         awaited(words)
     }
 
-    fn run<S: Source, K: Sink, M: Sink>(
-        &self,
-        alloc: Global,
-        words: &[String],
-        source: &mut S,
-        sink: &mut K,
-        messages: &mut M,
-    ) -> u8 {
-        run(alloc, words, source, sink, messages)
+    fn run<S: Source, K: Sink, M: Sink>(&self, given: &mut Given<S, K, M>) -> u8 {
+        run(given)
     }
 }
 

@@ -12,8 +12,9 @@ use Rattle.live_lines.specs.declared.status.LiveStatus.{LiveStatus}
 use Rattle.port_lines.specs.Lines.{asked_answer}
 use Rattle.conform_lines.specs.Stimuli.{stimulus_text}
 use Rattle.conform_lines.specs.Tolerances.{JudgeState}
+use Rattle.rio_conform.specs.declared.verdict.Verdict.{Verdict}
 use Rattle.rio_conform.specs.declared.verdict.Verdict.TheVariants.{Passes, Stopped}
-use Rattle.rio_conform.specs.Plays.{Played, PassesAnswer, IsPlayed, ArePlayed, played_none, played_then, Plays, PlaysRight, WasAsked, AnswerFails, RequestFails, StimulusTold, Fails, failing_verdict}
+use Rattle.rio_conform.specs.Plays.{Played, PassesAnswer, IsPlayed, ArePlayed, played_none, played_then, VerdictSays, Plays, PlaysRight, WasAsked, AnswerFails, RequestFails, StimulusTold, Fails, failing_verdict}
 
 -- the first of some values, and those behind it
 pub front_any : {A : Type 0} (xs : List A) (x : A) → x ≡ get_or xs 0 x → 1 ≤ length xs
@@ -22,6 +23,14 @@ front_any [] x is some = absurd (omega arith)
 front_any (y ∷ xs) x is some =
     let all : take (length (y ∷ xs) - 1) xs ≡ xs = grind (arith, common_steps) in
     ap (λ l. y ∷ l) (sym all) ∙ ap (λ z. z ∷ take (length (y ∷ xs) - 1) xs) (sym is)
+
+-- the text of the first of some values, and those of the others
+pub front_text : {A : Type 0} (text : A → List ℕ) (xs : List A) (x : A) (line : List ℕ)
+    → x ≡ get_or xs 0 x → 1 ≤ length xs → line ≡ text x
+    → map text xs ≡ line ∷ map text (take (length xs - 1) (drop 1 xs))
+front_text text xs x line is some same =
+    ap (map text) (front_any xs x is some)
+    ∙ ap (λ l. l ∷ map text (take (length xs - 1) (drop 1 xs))) (sym same)
 
 -- as many texts as values
 length_of : {A : Type 0} (text : A → List ℕ) (xs : List A) → length (map text xs) ≡ length xs
@@ -161,6 +170,11 @@ module _ (strict : Bool) (begun : Outgoing) (port : ClockedState) (at : JudgeSta
       same = r.told.same ∙ h.same;
     }
 
+    -- so many lines were played before
+    number_is : (count : ℕ) → count ≡ length lines - length rest → count ≡ length h.done
+    number_is count counted =
+        omega (arith, counted, ap length h.lines_are, length-append h.done rest)
+
     -- what is written then, if this line is told
     was_asked : (next : Outgoing) → begun.waiting ≡ [] → (told : StimulusTold line out next)
         → WasAsked line begun.written next.written h.played.asked
@@ -174,6 +188,17 @@ module _ (strict : Bool) (begun : Outgoing) (port : ClockedState) (at : JudgeSta
               (Writes-then h.played.asked text h.told told.told) told.fine told.empty;
         }
 
+    -- it ends at this line, of which the verdict says this
+    plays_to : {verdict : Verdict} {left_next written_next : Option (List ℕ)}
+        → VerdictSays strict verdict lines h.done h.played left left_next begun.written written_next
+        → Plays strict port at lines verdict left left_next begun.written written_next
+    plays_to says = record {
+      done = h.done;
+      played = h.played;
+      are_played = h.are_played;
+      says = says;
+    }
+
     -- the scenario ends at this line
     pub SoFar-fails : {left_next : Option (List ℕ)} (next : Outgoing) (pending_next : List ℕ)
         (failing : Failing) (count : ℕ) → begun.waiting ≡ []
@@ -182,31 +207,22 @@ module _ (strict : Bool) (begun : Outgoing) (port : ClockedState) (at : JudgeSta
         → Plays strict port at lines (failing_verdict failing count) left left_next
         begun.written next.written
     unfolding was_asked
-    SoFar-fails {left_next} next pending_next TheFailing.Differs count clear counted f = record {
-      done = h.done;
-      played = h.played;
-      are_played = h.are_played;
-      says = (
-        line,
-        (behind, goes_on, number),
-        was_asked next clear f.0,
-        record {
-          came = f.1.0;
-          answer = f.1.1;
-          gave = (
-            pending_next,
-            read_on left left_now left_next h.played.answers pending f.1.2.taken f.1.0
-                pending_next h.gave f.1.2.read f.1.2.are,
-          );
-          wrong = wrong;
-        },
-      );
-    }
+    SoFar-fails {left_next} next pending_next TheFailing.Differs count clear counted f = plays_to (
+      line,
+      (behind, goes_on, number_is count counted),
+      was_asked next clear f.0,
+      record {
+        came = f.1.0;
+        answer = f.1.1;
+        gave = (
+          pending_next,
+          read_on left left_now left_next h.played.answers pending f.1.2.taken f.1.0
+              pending_next h.gave f.1.2.read f.1.2.are,
+        );
+        wrong = wrong;
+      },
+    )
       where
-        number : count ≡ length h.done
-        number =
-            omega (arith, counted, ap length h.lines_are, length-append h.done rest)
-
         wrong : (next : JudgeState) → ¬ PassesAnswer strict f.0.request
             (asked_answer h.played.port (Ok f.0.request)).text f.1.0 h.played.judged next
         wrong =
@@ -214,46 +230,24 @@ module _ (strict : Bool) (begun : Outgoing) (port : ClockedState) (at : JudgeSta
             (asked_answer p (Ok f.0.request)).text f.1.0 h.played.judged next) h.stands
             (subst (λ j. (next : JudgeState) → ¬ PassesAnswer strict f.0.request
             (asked_answer now (Ok f.0.request)).text f.1.0 j next) h.judges f.1.3)
-    SoFar-fails {left_next} next pending_next TheFailing.Ended count clear counted f = record {
-      done = h.done;
-      played = h.played;
-      are_played = h.are_played;
-      says = (
-        line,
-        (behind, goes_on, number),
-        was_asked next clear f.0,
-        record {
-          at_end = f.1.at_end;
-          came = pending ++ f.1.taken;
-          gave =
-              subst (Consumes left left_next) (append_assoc h.played.answers pending f.1.taken)
-              (Consumes-trans left left_now left_next (h.played.answers ++ pending) f.1.taken
-              h.gave f.1.read);
-          none = f.1.none;
-        },
-      );
-    }
-      where
-        number : count ≡ length h.done
-        number =
-            omega (arith, counted, ap length h.lines_are, length-append h.done rest)
-    SoFar-fails {left_next} next pending_next TheFailing.Misspelled count clear counted f = record {
-      done = h.done;
-      played = h.played;
-      are_played = h.are_played;
-      says = (line, (behind, goes_on, number), f);
-    }
-      where
-        number : count ≡ length h.done
-        number =
-            omega (arith, counted, ap length h.lines_are, length-append h.done rest)
+    SoFar-fails {left_next} next pending_next TheFailing.Ended count clear counted f = plays_to (
+      line,
+      (behind, goes_on, number_is count counted),
+      was_asked next clear f.0,
+      record {
+        at_end = f.1.at_end;
+        came = pending ++ f.1.taken;
+        gave =
+            subst (Consumes left left_next) (append_assoc h.played.answers pending f.1.taken)
+            (Consumes-trans left left_now left_next (h.played.answers ++ pending) f.1.taken
+            h.gave f.1.read);
+        none = f.1.none;
+      },
+    )
+    SoFar-fails {left_next} next pending_next TheFailing.Misspelled count clear counted f =
+        plays_to (line, (behind, goes_on, number_is count counted), f)
     SoFar-fails {left_next} next pending_next (TheFailing.Stopped status) count clear counted f =
-        record {
-          done = h.done;
-          played = h.played;
-          are_played = h.are_played;
-          says = tt;
-        }
+        plays_to tt
 
   -- no line is left
   pub SoFar-passes : {out : Outgoing} {now : ClockedState} {left_now : Option (List ℕ)}

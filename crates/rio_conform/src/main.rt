@@ -28,9 +28,8 @@ use live_lines::start_lines;
 pub use playing::play;
 use program::read_asked;
 pub use program::run;
-use program_start::Program;
+use program_start::{Given, Program};
 use rio_chars::{Sink, Source};
-use std::alloc::Global;
 use std::process::ExitCode;
 pub use verdict::Verdict;
 
@@ -45,15 +44,8 @@ impl Program for RioConform {
         }
     }
 
-    fn run<S: Source, K: Sink, M: Sink>(
-        &self,
-        alloc: Global,
-        words: &[String],
-        source: &mut S,
-        sink: &mut K,
-        messages: &mut M,
-    ) -> u8 {
-        run(alloc, words, source, sink, messages)
+    fn run<S: Source, K: Sink, M: Sink>(&self, given: &mut Given<S, K, M>) -> u8 {
+        run(given)
     }
 }
 

@@ -1,6 +1,5 @@
 //! The whole program, but for where its words and its streams come from.
-ghost use Rattle.std.specs.Prelude.{◌≢◌, ◌≡◌, ◌≤◌, ◌↔◌, IsTrue, Bool, false, codes, map, MatchOption, IfSome, ℕ};
-ghost use Rattle.std.specs.Fmt.{decimal};
+ghost use Rattle.std.specs.Prelude.{◌≡◌, ◌≤◌, ◌↔◌, IsTrue, Bool, false, codes, map, MatchOption, IfSome, ℕ};
 ghost use Rattle.std.specs.String.{string_bytes};
 ghost use Rattle.rio_chars.specs.Unless.{WritesUnless};
 ghost use Rattle.rio_conform.specs.Program.{ConformRan, ConformDid, AsksNoPlay, AsksPlain, AsksPlay, PlayAsked, play_asked};
@@ -8,9 +7,9 @@ ghost use Rattle.rio_conform.specs.Report.{HasDetails, report_text};
 
 use crate::playing::play;
 use crate::verdict::{Verdict, status_of, verdict_number, verdict_word};
-use fabric_script::read_number;
 use live_lines::{LiveStatus, say, tell_question};
-use program_start::question_of;
+use port_lines::number_of_buffers;
+use program_start::{Given, question_of};
 use rio_chars::{Sink, Source, write_unless};
 use std::alloc::Global;
 
@@ -39,21 +38,21 @@ lines.
 /// Plays the lines of a scenario as the words behind the program's name say, and answers the exit
 /// status. `--help` and `--version` are answered. The report goes to `messages`. If it cannot be
 /// written, the status is the same.
-pub fn run<S: Source, K: Sink, M: Sink>(
-    alloc: Global,
-    words: &[String],
-    source: &mut S,
-    sink: &mut K,
-    messages: &mut M,
-) -> u8
-    ensures { ConformRan (map string_bytes words.now) result
-        S.left source.old source.new
-        K.written K.faults sink.old sink.new
-        M.written M.faults messages.old messages.new }
+pub fn run<S: Source, K: Sink, M: Sink>(given: &mut Given<S, K, M>) -> u8
+    ensures { ConformRan (map string_bytes given.old.words.now) result
+        S.left given.old.source given.new.source
+        K.written K.faults given.old.sink given.new.sink
+        M.written M.faults given.old.messages given.new.messages }
 {
-    let mut details = Vec::new(alloc);
-    let (name, verdict) = serve_words(alloc, words, source, sink, &mut details);
-    report(messages, name, verdict, details.as_slice());
+    let mut details = Vec::new(given.alloc);
+    let (name, verdict) = serve_words(
+        given.alloc,
+        given.words,
+        &mut given.source,
+        &mut given.sink,
+        &mut details,
+    );
+    report(&mut given.messages, name, verdict, details.as_slice());
     verdict_number(verdict)
 }
 
@@ -154,16 +153,4 @@ fn read_plain(strict: bool, words: &[String]) -> Option<Asked>
         name: name.as_str().as_bytes(),
         lines,
     })
-}
-
-/// The number of buffers that a word spells.
-fn number_of_buffers(word: &[u8]) -> Option<u8>
-    ensures { MatchOption result
-        ((buffers : ℕ) → 4 ≤ buffers → buffers ≤ 30 → word.now ≢ decimal buffers)
-        (λ buffers. (4 ≤ buffers) × (buffers ≤ 30) × (word.now ≡ decimal buffers)) }
-{
-    match read_number(word) {
-        Some(buffers) if 4 <= buffers && buffers <= 30 => Some(buffers as u8),
-        _ => None,
-    }
 }

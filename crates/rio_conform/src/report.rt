@@ -5,8 +5,7 @@ ghost use Rattle.rio_conform.specs.Report.{HasDetails};
 use crate::trial::Trial;
 use crate::verdict::Verdict;
 use conform_lines::write_said;
-use live_lines::TextSink;
-use rio_chars::{NoMemory, Outbox, TextBuffer};
+use rio_chars::{NoMemory, Outbox, TextBuffer, TextSink};
 use rio_framer::Framer;
 use std::alloc::{AllocError, Global};
 

@@ -4,9 +4,9 @@ ghost use Rattle.port_lines.specs.Clocks.{new_clocked, plain_settings};
 ghost use Rattle.conform_lines.specs.Tolerances.{judge_start};
 
 use conform_lines::Judge;
-use live_lines::{LineReader, TextSink};
+use live_lines::LineReader;
 use port_lines::{ClockedPort, PortSettings};
-use rio_chars::{NoMemory, TextBuffer};
+use rio_chars::{NoMemory, TextBuffer, TextSink};
 use std::alloc::Global;
 
 /// The port that gives the right answers, the judge of those that differ, and room for the answers

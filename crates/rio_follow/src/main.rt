@@ -26,11 +26,10 @@ mod why;
 pub use following::{follow, react};
 use live_lines::start_lines;
 pub use program::run;
-use program_start::Program;
+use program_start::{Given, Program};
 pub use request::FollowRequest;
 use request::{asked, asks_reactions};
 use rio_chars::{Sink, Source};
-use std::alloc::Global;
 use std::process::ExitCode;
 
 /// What is said at a terminal.
@@ -50,15 +49,8 @@ impl Program for RioFollow {
         }
     }
 
-    fn run<S: Source, K: Sink, M: Sink>(
-        &self,
-        alloc: Global,
-        words: &[String],
-        source: &mut S,
-        sink: &mut K,
-        messages: &mut M,
-    ) -> u8 {
-        run(alloc, words, source, sink, messages)
+    fn run<S: Source, K: Sink, M: Sink>(&self, given: &mut Given<S, K, M>) -> u8 {
+        run(given)
     }
 }
 

@@ -7,7 +7,7 @@ ghost use Rattle.rio_follow.specs.Program.{FollowDid, FollowRan};
 use crate::following::{follow, react};
 use crate::request::{asked, asks_reactions};
 use follow_lines::{FollowEnd, end_number, end_words};
-use program_start::{answer_question, question_of};
+use program_start::{Given, answer_question, question_of};
 use rio_chars::{Sink, Source, write_unless};
 use std::alloc::Global;
 
@@ -38,19 +38,19 @@ docs/checking.md has the reasons, and man rio the lines.
 /// Follows a trace as the words behind the program's name ask for, and answers the exit status.
 /// `--help` and `--version` are answered. What there is to say of the end is said in one line to
 /// `messages`. A line that cannot be said changes nothing.
-pub fn run<S: Source, K: Sink, M: Sink>(
-    alloc: Global,
-    words: &[String],
-    source: &mut S,
-    sink: &mut K,
-    messages: &mut M,
-) -> u8
-    ensures { FollowRan (map string_bytes words.now) result
-        S.left S.faults source.old source.new
-        K.written K.faults sink.old sink.new }
+pub fn run<S: Source, K: Sink, M: Sink>(given: &mut Given<S, K, M>) -> u8
+    ensures { FollowRan (map string_bytes given.old.words.now) result
+        S.left S.faults given.old.source given.new.source
+        K.written K.faults given.old.sink given.new.sink }
 {
-    let end = follow_words(alloc, words, source, sink, messages);
-    write_unless(false, messages, end_words(end));
+    let end = follow_words(
+        given.alloc,
+        given.words,
+        &mut given.source,
+        &mut given.sink,
+        &mut given.messages,
+    );
+    write_unless(false, &mut given.messages, end_words(end));
     end_number(end)
 }
 

@@ -28,10 +28,9 @@ pub use ends::{LaneEnds, LaneTask, LaneWay};
 pub use laws::what_is_written_is_read_back;
 use program::asked;
 pub use program::run;
-use program_start::{Program, start};
+use program_start::{Given, Program, start};
 use rio_chars::{Sink, Source};
 pub use serving::serve;
-use std::alloc::Global;
 use std::process::ExitCode;
 
 /// The program, as it is started.
@@ -45,15 +44,8 @@ impl Program for RioLane {
         }
     }
 
-    fn run<S: Source, K: Sink, M: Sink>(
-        &self,
-        alloc: Global,
-        words: &[String],
-        source: &mut S,
-        sink: &mut K,
-        messages: &mut M,
-    ) -> u8 {
-        run(alloc, words, source, sink, messages)
+    fn run<S: Source, K: Sink, M: Sink>(&self, given: &mut Given<S, K, M>) -> u8 {
+        run(given)
     }
 }
 

@@ -10,7 +10,7 @@ use crate::ends::LaneTask;
 use crate::serving::serve;
 use fabric_script::read_number;
 use live_lines::{LiveStatus, say, status_number};
-use program_start::{answer_question, question_of};
+use program_start::{Given, answer_question, question_of};
 use rio_chars::{Sink, Source};
 use std::alloc::Global;
 
@@ -41,19 +41,19 @@ const COMMAS: u8 = 1;
 /// Serves lines as the words after the program's name ask for, and answers the exit status.
 /// `--help` and `--version` are answered. What there is to say of the end is said in one line to
 /// `messages`. A line that cannot be said changes nothing.
-pub fn run<S: Source, K: Sink, M: Sink>(
-    alloc: Global,
-    words: &[String],
-    source: &mut S,
-    sink: &mut K,
-    messages: &mut M,
-) -> u8
-    ensures { LaneRan (map string_bytes words.now) result
-        S.left S.faults source.old source.new
-        K.written K.faults sink.old sink.new }
+pub fn run<S: Source, K: Sink, M: Sink>(given: &mut Given<S, K, M>) -> u8
+    ensures { LaneRan (map string_bytes given.old.words.now) result
+        S.left S.faults given.old.source given.new.source
+        K.written K.faults given.old.sink given.new.sink }
 {
-    let status = serve_words(alloc, words, source, sink, messages);
-    say(messages, b"rio_lane: ", USAGE, status);
+    let status = serve_words(
+        given.alloc,
+        given.words,
+        &mut given.source,
+        &mut given.sink,
+        &mut given.messages,
+    );
+    say(&mut given.messages, b"rio_lane: ", USAGE, status);
     status_number(status)
 }
 

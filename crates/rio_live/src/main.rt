@@ -18,10 +18,9 @@ mod serving;
 
 use live_lines::start_lines;
 pub use program::run;
-use program_start::Program;
+use program_start::{Given, Program};
 use rio_chars::{Sink, Source};
 pub use serving::serve;
-use std::alloc::Global;
 use std::process::ExitCode;
 
 /// The program, as it is started.
@@ -35,15 +34,8 @@ impl Program for RioLive {
         }
     }
 
-    fn run<S: Source, K: Sink, M: Sink>(
-        &self,
-        alloc: Global,
-        words: &[String],
-        source: &mut S,
-        sink: &mut K,
-        messages: &mut M,
-    ) -> u8 {
-        run(alloc, words, source, sink, messages)
+    fn run<S: Source, K: Sink, M: Sink>(&self, given: &mut Given<S, K, M>) -> u8 {
+        run(given)
     }
 }
 

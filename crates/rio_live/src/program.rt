@@ -5,7 +5,7 @@ ghost use Rattle.rio_live.specs.Program.{LiveRan, LiveDid};
 
 use crate::serving::serve;
 use live_lines::{LiveStatus, say, status_number, tell_question};
-use program_start::question_of;
+use program_start::{Given, question_of};
 use rio_chars::{Sink, Source};
 use std::alloc::Global;
 
@@ -32,20 +32,14 @@ docs/live.md says what is answered, and man rio has the lines.
 /// Serves a fabric if there are no words after the program's name, and answers the exit status.
 /// `--help` and `--version` are answered. What there is to say of the end is said in one line to
 /// `messages`. A line that cannot be said changes nothing.
-pub fn run<S: Source, K: Sink, M: Sink>(
-    alloc: Global,
-    words: &[String],
-    source: &mut S,
-    sink: &mut K,
-    messages: &mut M,
-) -> u8
-    ensures { LiveRan (map string_bytes words.now) result
-        S.left S.faults source.old source.new
-        K.written K.faults sink.old sink.new
-        M.written M.faults messages.old messages.new }
+pub fn run<S: Source, K: Sink, M: Sink>(given: &mut Given<S, K, M>) -> u8
+    ensures { LiveRan (map string_bytes given.old.words.now) result
+        S.left S.faults given.old.source given.new.source
+        K.written K.faults given.old.sink given.new.sink
+        M.written M.faults given.old.messages given.new.messages }
 {
-    let status = serve_words(alloc, words, source, sink);
-    say(messages, b"rio_live: ", USAGE, status);
+    let status = serve_words(given.alloc, given.words, &mut given.source, &mut given.sink);
+    say(&mut given.messages, b"rio_live: ", USAGE, status);
     status_number(status)
 }
 

@@ -10,7 +10,7 @@ use live_fabric::{AfterLine, BrokenOff, Session};
 use live_lines::{LineEnd, LineReader, LiveStatus};
 use rio_chars::{Outbox, Sink, Source, TextBuffer};
 use std::alloc::Global;
-use trace_lines::TraceWriter;
+use trace_lines::{PacketCounts, TraceWriter};
 
 /// Reads lines, and answers each before the next is asked for. At the end of input the last line of
 /// the trace is written.
@@ -110,7 +110,11 @@ fn end_trace<K: Sink>(outbox: &mut Outbox<K>) -> LiveStatus
     ensures empty { outbox.new.waiting ≡ [] }
     ensures status { result ≡ (if outbox.new.failed then ends_with.WriteFault else ends_with.Done) }
 {
-    let mut writer = TraceWriter { outbox, names: &[] };
+    let mut writer = TraceWriter {
+        outbox,
+        names: &[],
+        counts: PacketCounts::new(),
+    };
     writer.write_end();
     outbox.flush();
     if outbox.failed() {

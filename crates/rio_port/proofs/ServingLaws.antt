@@ -3,7 +3,7 @@ use Rattle.std.proofs.Common.{◌≡◌, ◌≢◌, ℕ, ◌+◌, ◌-◌, ◌^�
 use Rattle.std.specs.Io.KnownBytes.{Consumes}
 use Rattle.rio_chars.specs.Written.{Outgoing, Writes}
 use Rattle.live_lines.specs.Lines.{IsLine, with_feed}
-use Rattle.live_lines.specs.Serving.{end_status}
+use Rattle.live_lines.specs.Serving.{ServesLines, end_status}
 use Rattle.live_lines.specs.declared.input.LineEnd.{LineEnd}
 use Rattle.live_lines.specs.declared.input.LineEnd.TheVariants.{End, Fault, TooLong, NoMemory}
 use Rattle.live_lines.specs.declared.status.LiveStatus.{LiveStatus}
@@ -122,3 +122,22 @@ module _ (begun : Outgoing) (port : ClockedState) (left : Option (List ℕ)) (re
         Going-read begun left read_faults pending taken rest read_faults_now
         read_faults_next h.lines h.answer.text h.going more is same;
   }
+
+-- the lines that were served are all, where it ended
+pub Served-ends : {begun out : Outgoing} {port now : ClockedState}
+    {left left_now : Option (List ℕ)} {pending : List ℕ} {count read_faults read_faults_now : ℕ}
+    {status : LiveStatus} {left_after written written_after : Option (List ℕ)}
+    {faults_before faults_after write_faults write_faults_after : ℕ}
+    → (h : Served begun out port now left left_now pending count read_faults read_faults_now)
+    → status ≢ Undetected
+    → ServesLines (2 ^ 64 - 1) status left left_after faults_before faults_after
+    written written_after write_faults write_faults_after h.lines h.answer.text
+    → ServesFrom port status left left_after faults_before faults_after
+    written written_after write_faults write_faults_after
+Served-ends h ends serves = record {
+  lines = h.lines;
+  answer = h.answer;
+  answers = h.answers;
+  ends = ends;
+  serves = serves;
+}

@@ -3,8 +3,8 @@ ghost use Rattle.std.specs.Prelude.{◌≡◌, false, IfOk};
 ghost use Rattle.rio_port.specs.Logs.{AddsLog};
 
 use crate::log_text::{Ends, push_line, push_set_up};
-use live_lines::{LiveStatus, TextSink};
-use rio_chars::{NoMemory, Sink, TextBuffer, write_unless};
+use live_lines::LiveStatus;
+use rio_chars::{NoMemory, Sink, TextBuffer, TextSink, write_unless};
 use std::alloc::{AllocError, Global};
 
 /// The log, and what it needs.

@@ -23,10 +23,9 @@ use live_lines::start_lines;
 pub use log::LogWords;
 pub use program::run;
 use program::{settings_of, split_log};
-use program_start::Program;
+use program_start::{Given, Program};
 use rio_chars::{Sink, Source};
 pub use serving::{Served, serve};
-use std::alloc::Global;
 use std::process::ExitCode;
 
 /// The program, as it is started.
@@ -41,15 +40,8 @@ impl Program for RioPort {
         }
     }
 
-    fn run<S: Source, K: Sink, M: Sink>(
-        &self,
-        alloc: Global,
-        words: &[String],
-        source: &mut S,
-        sink: &mut K,
-        messages: &mut M,
-    ) -> u8 {
-        run(alloc, words, source, sink, messages)
+    fn run<S: Source, K: Sink, M: Sink>(&self, given: &mut Given<S, K, M>) -> u8 {
+        run(given)
     }
 }
 

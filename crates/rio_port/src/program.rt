@@ -12,8 +12,8 @@ use crate::log::LogWords;
 use crate::serving::{Served, serve};
 use fabric_script::read_number;
 use live_lines::{LiveStatus, say, status_number, tell_question};
-use port_lines::PortSettings;
-use program_start::question_of;
+use port_lines::{PortSettings, number_of_buffers};
+use program_start::{Given, question_of};
 use rio_chars::{Sink, Source};
 use std::alloc::Global;
 
@@ -52,20 +52,20 @@ docs/live.md says what is answered, and docs/characters.md how characters are wr
 /// Serves a port that is made as the words behind the program's name say, and answers the exit
 /// status. `--help` and `--version` are answered. What there is to say of the end is said in
 /// one line to `messages`. A line that cannot be said changes nothing.
-pub fn run<S: Source, K: Sink, M: Sink>(
-    alloc: Global,
-    words: &[String],
-    source: &mut S,
-    sink: &mut K,
-    messages: &mut M,
-) -> u8
-    ensures { PortRan (map string_bytes words.now) result
-        S.left S.faults source.old source.new
-        K.written K.faults sink.old sink.new
-        M.written M.faults messages.old messages.new }
+pub fn run<S: Source, K: Sink, M: Sink>(given: &mut Given<S, K, M>) -> u8
+    ensures { PortRan (map string_bytes given.old.words.now) result
+        S.left S.faults given.old.source given.new.source
+        K.written K.faults given.old.sink given.new.sink
+        M.written M.faults given.old.messages given.new.messages }
 {
-    let Served { status, failed } = serve_words(alloc, words, source, sink, messages);
-    say_unless(failed, messages, status);
+    let Served { status, failed } = serve_words(
+        given.alloc,
+        given.words,
+        &mut given.source,
+        &mut given.sink,
+        &mut given.messages,
+    );
+    say_unless(failed, &mut given.messages, status);
     status_number(status)
 }
 
@@ -277,18 +277,6 @@ fn number_of_clocks(word: &[u8]) -> Option<u32>
 {
     match read_number(word) {
         Some(clocks) if 1 <= clocks && clocks <= MOST_CLOCKS => Some(clocks),
-        _ => None,
-    }
-}
-
-/// The number of buffers that a word spells.
-fn number_of_buffers(word: &[u8]) -> Option<u8>
-    ensures { MatchOption result
-        ((buffers : ℕ) → 4 ≤ buffers → buffers ≤ 30 → word.now ≢ decimal buffers)
-        (λ buffers. (4 ≤ buffers) × (buffers ≤ 30) × (word.now ≡ decimal buffers)) }
-{
-    match read_number(word) {
-        Some(buffers) if 4 <= buffers && buffers <= 30 => Some(buffers as u8),
         _ => None,
     }
 }

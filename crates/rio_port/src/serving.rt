@@ -9,9 +9,9 @@ ghost use Rattle.rio_port.specs.Logs.{AddsLog, KeepsAll};
 ghost use Rattle.rio_port.specs.Program.{ServesFrom};
 
 use crate::log::{Log, LogWords};
-use live_lines::{LineReader, LiveStatus, TextSink};
+use live_lines::{LineReader, LiveStatus};
 use port_lines::{ClockedPort, PortRequest, PortSettings, RequestRefusal, answer, read_request};
-use rio_chars::{NoMemory, Outbox, Sink, Source, TextBuffer};
+use rio_chars::{NoMemory, Outbox, Sink, Source, TextBuffer, TextSink};
 use std::alloc::Global;
 
 /// How lines were served.

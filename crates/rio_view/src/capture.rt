@@ -94,7 +94,7 @@ impl View for Capture {
 
     fn take(&mut self, seen: &Seen<'_>, out: &mut Text) -> Result<(), ViewEnd> {
         match seen.line {
-            TraceLine::Stepped(step) if seen.is_shown => self.put_step(seen, step, out),
+            TraceLine::Stepped(step) if seen.is_shown => self.put_step(seen, step.get(), out),
             TraceLine::Sent(port, chars) => self.put_answers(seen, *port, chars.as_slice(), out)?,
             _ => {}
         }

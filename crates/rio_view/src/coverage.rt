@@ -64,7 +64,7 @@ impl View for Coverage {
             TraceLine::Sent(port, chars) => self.follow(*port, &Came::Sent(chars.as_slice()))?,
             TraceLine::Got(port, chars) => self.follow(*port, &Came::Got(chars.as_slice()))?,
             TraceLine::Fired(port) => self.follow(*port, &Came::Fired)?,
-            TraceLine::Stepped(step) => self.step(step)?,
+            TraceLine::Stepped(step) => self.step(step.get())?,
             TraceLine::Begun(event) => self.begin_event(event)?,
             TraceLine::Ended | TraceLine::Undetected(..) => self.end_event()?,
             TraceLine::Lacked(_) => {}

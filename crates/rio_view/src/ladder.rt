@@ -3,11 +3,11 @@
 
 use crate::command::Range;
 use crate::drawing::{Draws, Takes};
-use crate::lanes::{Lane, WireChange, edit_of};
+use crate::lanes::Lane;
 use crate::picture::{Arrow, ArrowKind, GAP, MARGIN, MOST_ROWS, Mark, Picture, PictureRow, WIDE};
 use fabric_script::{Line, PortRef};
 use link_model::Event;
-use rio_chars::Char;
+use rio_chars::{Char, Edit};
 use rio_packets::Packet;
 use std::alloc::{AllocError, Global};
 use trace_lines::{Lack, NetworkStep, TraceLine};
@@ -30,7 +30,7 @@ pub(crate) struct Ladder {
     taking: Ports<Ear>,
     lanes: Ports<Lane>,
     /// An edit that is made unless the next line says that the wire is too short.
-    pending: Option<(PortRef, WireChange)>,
+    pending: Option<(PortRef, Edit)>,
     picture: Picture,
     asked: AskedRegisters,
     alloc: Global,
@@ -110,9 +110,9 @@ impl Ladder {
             TraceLine::Begun(line) => self.begin_event(seen, line),
             TraceLine::Sent(port, chars) => self.draw_sent(*port, chars.as_slice()),
             TraceLine::Got(port, chars) => self.draw_got(*port, chars.as_slice()),
-            TraceLine::Stepped(step) => self.draw_step(step),
+            TraceLine::Stepped(step) => self.draw_step(step.get()),
             TraceLine::Fired(port) => self.mark(*port, b"time-out", true, None),
-            TraceLine::Undetected(_, port, event) => self.mark_undetected(*port, event),
+            TraceLine::Undetected(_, port, event) => self.mark_undetected(*port, event.get()),
             TraceLine::Lacked(lack) => {
                 self.draw_lack(*lack);
                 Ok(())
@@ -144,7 +144,7 @@ impl Ladder {
     /// An event begins: its band, and the edit that it makes.
     fn begin_event(&mut self, seen: &Seen<'_>, line: &Line) -> Result<(), AllocError> {
         self.event = self.event.saturating_add(1);
-        self.pending = edit_of(line);
+        self.pending = line.wire_edit();
         if self.is_shown() {
             let mut text = Text::new(self.alloc);
             text.put_number(u64::from(self.event));
@@ -168,7 +168,7 @@ impl Ladder {
     }
 
     /// Makes an edit.
-    fn edit(&mut self, port: PortRef, edit: WireChange) -> Result<(), AllocError> {
+    fn edit(&mut self, port: PortRef, edit: Edit) -> Result<(), AllocError> {
         match self.lanes.get_mut(port) {
             Some(lane) => lane.edit(edit, &mut self.picture),
             None => Ok(()),

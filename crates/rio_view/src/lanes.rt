@@ -2,7 +2,7 @@
 
 use crate::cells::Cells;
 use crate::picture::Picture;
-use fabric_script::{Line, PortRef};
+use rio_chars::Edit;
 use std::alloc::{AllocError, Global};
 
 /// The lifeline of a port, and what stands on its wire.
@@ -29,21 +29,17 @@ impl Lane {
     }
 
     /// Makes an edit of the wire.
-    pub(crate) fn edit(
-        &mut self,
-        edit: WireChange,
-        picture: &mut Picture,
-    ) -> Result<(), AllocError> {
+    pub(crate) fn edit(&mut self, edit: Edit, picture: &mut Picture) -> Result<(), AllocError> {
         match edit {
-            WireChange::Alter(place) => {
+            Edit::Alter { place, .. } => {
                 let row = self.wire.alter(place as usize);
                 picture.change(row);
             }
-            WireChange::Insert(place) => {
+            Edit::Insert { place, .. } => {
                 let row = self.wire.insert(place as usize)?;
                 picture.change(row);
             }
-            WireChange::Erase(place, count) => {
+            Edit::Erase { place, count } => {
                 for _ in 0..count {
                     let row = self.wire.erase(place as usize);
                     picture.lose(row);
@@ -51,23 +47,5 @@ impl Lane {
             }
         }
         Ok(())
-    }
-}
-
-/// A change of what stands on the wire of a port.
-#[derive(Clone, Copy)]
-pub(crate) enum WireChange {
-    Alter(u32),
-    Insert(u32),
-    Erase(u32, u32),
-}
-
-/// The edit that an event makes, and on the wire of which port.
-pub(crate) fn edit_of(line: &Line) -> Option<(PortRef, WireChange)> {
-    match line {
-        Line::Alter { port, place, .. } => Some((*port, WireChange::Alter(*place))),
-        Line::Insert { port, place, .. } => Some((*port, WireChange::Insert(*place))),
-        Line::Erase { port, place, n } => Some((*port, WireChange::Erase(*place, *n))),
-        _ => None,
     }
 }

@@ -43,9 +43,8 @@ mod wave;
 pub use command::{Range, ViewCommand, ViewName};
 pub use program::run;
 use program::waits_for;
-use program_start::{Program, start};
+use program_start::{Given, Program, start};
 use rio_chars::{Sink, Source};
-use std::alloc::Global;
 use std::process::ExitCode;
 
 /// The program, as it is started.
@@ -56,15 +55,8 @@ impl Program for RioView {
         waits_for(words)
     }
 
-    fn run<S: Source, K: Sink, M: Sink>(
-        &self,
-        alloc: Global,
-        words: &[String],
-        source: &mut S,
-        sink: &mut K,
-        messages: &mut M,
-    ) -> u8 {
-        run(alloc, words, source, sink, messages)
+    fn run<S: Source, K: Sink, M: Sink>(&self, given: &mut Given<S, K, M>) -> u8 {
+        run(given)
     }
 }
 

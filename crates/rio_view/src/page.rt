@@ -175,7 +175,7 @@ impl PageView {
             }
             TraceLine::Sent(port, chars) => self.put_sent(seen, *port, chars.as_slice(), out)?,
             TraceLine::Got(port, chars) => self.put_got(*port, chars.as_slice(), out)?,
-            TraceLine::Stepped(step) => self.put_step(seen.is_shown, step, out),
+            TraceLine::Stepped(step) => self.put_step(seen.is_shown, step.get(), out),
             TraceLine::Fired(port) => self.put_fired(*port, out),
             TraceLine::Lacked(lack) => out.put(lack_words(*lack)),
             TraceLine::Ended => out.put(b"e "),
@@ -185,7 +185,7 @@ impl PageView {
                 out.put(b"\t");
                 out.put(seen.text);
                 out.put(b"\t");
-                put_event(out, &mut self.asked, event);
+                put_event(out, &mut self.asked, event.get());
             }
         }
         out.put(b"\n");

@@ -1,7 +1,7 @@
 //! The signals of a port in a wave.
 
 use crate::pen::{Pen, declare};
-use link_model::{Kind, char_kind};
+use link_model::{CharKind, char_kind};
 use rio_chars::Char;
 use rio_symbols::Symbol;
 use rio_symbols::stype0::STATUS;
@@ -143,7 +143,7 @@ impl Probe {
             self.left = 0;
             return Reads::Bad;
         }
-        if let Kind::Opens(_) = char_kind(c) {
+        if let CharKind::Opens(_) = char_kind(c) {
             self.left = 3;
             return Reads::Symbol;
         }

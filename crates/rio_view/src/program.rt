@@ -9,7 +9,7 @@ use crate::messages::{HELP, say};
 use crate::page::PageView;
 use crate::save::SaveFile;
 use crate::wave::Wave;
-use program_start::{Question, answer_question, question_of};
+use program_start::{Given, Question, answer_question, question_of};
 use rio_chars::{Sink, Source};
 use std::alloc::Global;
 use view_words::{CountsView, Part, ViewEnd, ViewStatus, WordsView, show, status_number};
@@ -17,15 +17,10 @@ use view_words::{CountsView, Part, ViewEnd, ViewStatus, WordsView, show, status_
 /// Writes the view that the words after the program's name ask for, or answers a question, and
 /// answers the exit status. What there is to say of the end is said to `messages`. A message that
 /// cannot be said changes nothing.
-pub fn run<S: Source, K: Sink, M: Sink>(
-    alloc: Global,
-    words: &[String],
-    source: &mut S,
-    sink: &mut K,
-    messages: &mut M,
-) -> u8 {
-    let end = answer_words(alloc, words, source, sink);
-    say(messages, words, &end);
+pub fn run<S: Source, K: Sink, M: Sink>(given: &mut Given<S, K, M>) -> u8 {
+    let words = given.words;
+    let end = answer_words(given.alloc, words, &mut given.source, &mut given.sink);
+    say(&mut given.messages, words, &end);
     match end {
         Ok(()) => 0,
         Err(end) => status_number(end.status()),

@@ -124,7 +124,7 @@ impl Wave {
         match line {
             TraceLine::Sent(port, chars) => self.send(*port, chars.as_slice(), out)?,
             TraceLine::Got(port, chars) => self.get(*port, chars.as_slice(), out)?,
-            TraceLine::Stepped(step) => self.step(step, out),
+            TraceLine::Stepped(step) => self.step(step.get(), out),
             TraceLine::Fired(port) => self.fire(*port, out),
             TraceLine::Begun(_)
             | TraceLine::Lacked(_)

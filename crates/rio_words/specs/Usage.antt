@@ -7,8 +7,8 @@ use Rattle.rio_words.specs.declared.faults.WordsFault.{WordsFault}
 use Rattle.rio_words.specs.Faults.{IsFaultOf, fault_text, first_of}
 use Rattle.rio_words.specs.Help.{help_text}
 
--- Of words that ask for no command: the answer to their question was said, or else what is wrong with
--- them; or a front of that, where a write failed.
+-- Of words that ask for no command: the answer to their question was said, or else what is wrong
+-- with them; or a front of that, if a write failed.
 abbrev pub SaysOfWords : List (List ℕ) → Option (List ℕ) → ℕ → Bool → Option (List ℕ) → ℕ → Type 0
 SaysOfWords words said faults failed said_after faults_after =
     ((question : Question) × AsksQuestion question words

@@ -124,7 +124,7 @@ impl Tallies {
         match line {
             TraceLine::Sent(port, chars) => self.send(*port, chars.as_slice()),
             TraceLine::Fired(port) => self.raise(*port, LineKind::Fire),
-            TraceLine::Stepped(step) => self.count_step(step),
+            TraceLine::Stepped(step) => self.count_step(step.get()),
             TraceLine::Begun(_)
             | TraceLine::Got(..)
             | TraceLine::Lacked(_)

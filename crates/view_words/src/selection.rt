@@ -117,7 +117,7 @@ impl Selection {
     fn names(&self, line: &TraceLine) -> bool {
         match line {
             TraceLine::Begun(line) => port_of_event(line).is_some_and(|port| self.has_port(port)),
-            TraceLine::Stepped(step) => self.has_step(step),
+            TraceLine::Stepped(step) => self.has_step(step.get()),
             TraceLine::Sent(port, _)
             | TraceLine::Got(port, _)
             | TraceLine::Fired(port)

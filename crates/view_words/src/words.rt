@@ -91,10 +91,10 @@ impl WordsView {
     /// The words of a line that has no characters of a wire, if it has any.
     fn put_words(&mut self, out: &mut Text, line: &TraceLine) {
         match line {
-            TraceLine::Stepped(step) => self.put_step(out, step),
+            TraceLine::Stepped(step) => self.put_step(out, step.get()),
             TraceLine::Undetected(_, _, event) => {
                 out.put(b"  # ");
-                put_event(out, &mut self.asked, event);
+                put_event(out, &mut self.asked, event.get());
             }
             TraceLine::Begun(_)
             | TraceLine::Sent(..)
@@ -140,7 +140,7 @@ impl WordsView {
     /// The line of an event, and one line for what happens but on a wire.
     fn put_other(&mut self, out: &mut Text, seen: &Seen<'_>) {
         match seen.line {
-            TraceLine::Stepped(step) => self.put_end(out, seen, step),
+            TraceLine::Stepped(step) => self.put_end(out, seen, step.get()),
             TraceLine::Fired(port) => put_at(out, seen, *port, b": time-out\n"),
             TraceLine::Lacked(lack) => {
                 put_line_number(out, seen.number);
@@ -148,7 +148,7 @@ impl WordsView {
             }
             TraceLine::Undetected(_, port, event) => {
                 put_at(out, seen, *port, b": undetected: ");
-                put_event(out, &mut self.asked, event);
+                put_event(out, &mut self.asked, event.get());
                 out.put(b"\n");
             }
             TraceLine::Begun(_) | TraceLine::Ended => {

@@ -1,6 +1,5 @@
 use Rattle.std.proofs.Common.{[], inl, inr, refl, ◌∙◌}
-use Rattle.follow_lines.specs.declared.ends.FollowEnd.TheVariants as F
-use Rattle.follow_lines.proofs.TellingLaws.{has_written, no_memory}
+use Rattle.follow_lines.proofs.TellingLaws.{has_written, untold}
 use Rattle.follow_lines.proofs.telling.tell_verdict.Goals as goal
 
 pub returns-in-Ok : goal.returns-in-Ok
@@ -13,14 +12,8 @@ returns-in-Ok g c = (
 )
 
 pub returns-in-Err : goal.returns-in-Err
-returns-in-Err g c = (
-  [],
-  inr (
-    refl,
-    no_memory c.tell_line-in-Err.result c.tell_line-in-Err.new.outbox
-        c.tell_line-in-Err.ensures.end,
-  ),
-  c.tell_line-in-Err.ensures.told,
-  has_written c.args.verdict F.NoMemory c.tell_line-in-Err.result c.tell_line-in-Err.new.outbox
-      (inr refl) c.tell_line-in-Err.ensures.end c.tell_line-in-Err.ensures.empty,
-)
+returns-in-Err g c =
+    let none = untold c.args.verdict c.tell_line-in-Err.result c.args.outbox.now
+    c.tell_line-in-Err.new.outbox c.tell_line-in-Err.ensures.told c.tell_line-in-Err.ensures.end
+    c.tell_line-in-Err.ensures.empty in
+    ([], inr (refl, none.0), none.1, none.2)

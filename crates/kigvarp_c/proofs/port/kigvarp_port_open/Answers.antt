@@ -1,4 +1,4 @@
-use Rattle.std.proofs.Common.{◌≡◌, List, [], ◌∷◌, ap, ◌∙◌, arith}
+use Rattle.std.proofs.Common.{◌≡◌, [], ◌∷◌, ap, ◌∙◌, arith}
 use Rattle.library_calls.specs.declared.status.CallStatus.TheVariants.{Done, Argument, NoMemory}
 use Rattle.library_calls.specs.PortsSeen.{PortSeen}
 use Rattle.kigvarp_c.specs.Handles.{OpensPort, IsBufferCount}

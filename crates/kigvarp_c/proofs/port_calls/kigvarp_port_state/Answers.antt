@@ -1,4 +1,4 @@
-use Rattle.std.proofs.Common.{◌≡◌, sym}
+use Rattle.std.proofs.Common.{sym}
 use Rattle.library_calls.specs.declared.status.CallStatus.TheVariants.{Done}
 use Rattle.library_calls.specs.States.{StateTells}
 use Rattle.kigvarp_c.specs.Calls.{Always}

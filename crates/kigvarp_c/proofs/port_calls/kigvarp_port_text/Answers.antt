@@ -1,4 +1,3 @@
-use Rattle.std.proofs.Common.{◌≡◌}
 use Rattle.library_calls.specs.declared.status.CallStatus.TheVariants.{Done}
 use Rattle.library_calls.specs.PortsSeen.{PortTextTaken}
 use Rattle.kigvarp_c.specs.Calls.{Always}

@@ -14,8 +14,8 @@ returns-clause-happens g c = λ taken holds may.
     happens_quietly taken c.args.number event now told c.args.outbox.now c.write.new.self
     c.args.live.now items holds
     (subst (λ (before : List ℕ). HappensWhole taken c.args.number event (Some before)
-    (Some items) now told) c.new.ensures.items
+    (Some items) now told) c.new-sink.ensures
     (c.in_ok-told.ensures.happens taken holds may))
     (subst (Writes c.args.outbox.now c.write.new.self)
-    (c.as_slice-2.ensures.value ∙ c.in_ok-text.ensures ∙ ap quiet_text c.as_slice.ensures.value)
+    (c.as_slice-2.ensures.value ∙ c.in_ok-text.ensures ∙ ap quiet_text c.as_slice.ensures)
     c.write.ensures)

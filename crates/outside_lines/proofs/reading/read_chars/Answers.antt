@@ -17,7 +17,8 @@ loop-left-preserved c =
       texts = texts_more old new c.in-Some-read_char.c c.split_word.result.0.now
           (words_left c.split_word.result.1) _
           (ap (λ (l : List (List ℕ)). map char_text_of old ++ l)
-          (sym c.split_word.ensures ∙ sym (ap words_left c.in-Some.is)) ∙ before.texts) char.text all;
+          (sym c.split_word.ensures ∙ sym (ap words_left c.in-Some.is)) ∙ before.texts)
+          char.text all;
       bytes = bytes_more old new c.in-Some-read_char.c before.bytes char.byte all;
     }
 

@@ -1,6 +1,6 @@
-use Rattle.std.proofs.Common.{◌≡◌, ◌<◌, ◌-◌, suc, [], length, take, ap, sym, ◌∙◌, subst, true, false, arith, rules}
+use Rattle.std.proofs.Common.{◌≡◌, ◌<◌, ◌-◌, suc, [], length, take, ap, sym, ◌∙◌, subst, arith, rules}
 use Rattle.std.specs.Io.KnownBytes.{Consumes}
-use Rattle.live_lines.specs.Feeds.{inside_after, left_with_feed}
+use Rattle.live_lines.specs.Feeds.{inside_after}
 use Rattle.live_lines.proofs.FeedLaws.{nil_inside, inside_front, read_on, end_stays, feed_read, first_set}
 use Rattle.live_lines.proofs.feed_at_end.FeedAtEndSource.read.Goals as goal
 use Rattle.live_lines.proofs.feed_at_end.FeedAtEndSource.read.Goals.{then-not-self-via-then-not-self, then-not-self-via-else-not-self+then-is_empty}
@@ -26,11 +26,13 @@ returns-then-not-self-clause-bytes g c =
     let new = g.S.Source.left c.read.new.self in
     let nothing = subst (λ n. Consumes (g.S.Source.left c.args.self.now.source) new
     (take n c.read.new.piece)) none c.in_ok-count.ensures.bytes.0 in (
-      read_on inside inside (g.S.Source.left c.args.self.now.source) new [] nothing (nil_inside inside),
+      read_on inside inside (g.S.Source.left c.args.self.now.source) new [] nothing
+          (nil_inside inside),
       λ zero some. elim c.then-not-self.branch [
         | then-not-self-via-then-not-self w ↦
             rw w.if-not-self.true (end_stays new (c.in_ok-count.ensures.bytes.1 none some))
-        | then-not-self-via-else-not-self+then-is_empty w ↦ absurd (grind (arith, w.is_empty.ensures, w.if-is_empty.true))
+        | then-not-self-via-else-not-self+then-is_empty w ↦
+            absurd (grind (arith, w.is_empty.ensures, w.if-is_empty.true))
       ],
     )
 
@@ -40,7 +42,8 @@ returns-clause-bytes g c =
     let none : count ≡ 0 = omega arith in
     let new = g.S.Source.left c.read.new.self in
     let old = g.S.Source.left c.args.self.now.source in
-    let some : 0 < length c.read.new.piece = grind (arith, c.is_empty.ensures, c.if-is_empty.false) in
+    let some : 0 < length c.read.new.piece =
+    grind (arith, c.is_empty.ensures, c.if-is_empty.false) in
     let nothing = subst (λ n. Consumes old new (take n c.read.new.piece)) none
     c.in_ok-count.ensures.bytes.0 in
     let fed = feed_read old new nothing (c.in_ok-count.ensures.bytes.1 none some) in (

@@ -1,6 +1,6 @@
 use Rattle.std.proofs.Common.{◌<◌, ◌^◌, sym, ◌∙◌, rules, arith}
 use Rattle.std.proofs.lemmas.Fmt.{decimal_injective}
-use Rattle.rio_port.proofs.program.number_of_buffers.Goals as goal
+use Rattle.port_lines.proofs.settings.number_of_buffers.Goals as goal
 
 pub returns-in_default : goal.returns-in_default
 returns-in_default c = λ n low high e.
